@@ -1,0 +1,20 @@
+-- The ranges.
+use Prim.Native.Nat.{ℕ}
+
+-- models, sheets and groups are numbered from 0, below these
+abbrev pub models : ℕ
+models = 64
+
+abbrev pub sheets : ℕ
+sheets = 256
+
+abbrev pub groups : ℕ
+groups = 16
+
+-- ticks count from 1 up to this
+abbrev pub ticks : ℕ
+ticks = 1000000
+
+-- the most events in a strip, and records in a book
+abbrev pub events : ℕ
+events = 4096

@@ -1,0 +1,43 @@
+-- The refusal numbers.
+use Prim.Native.Nat.{ℕ}
+
+-- a request, a close, a read, a list of groups, a fresh group: 1 to 9
+abbrev pub badKind : ℕ
+badKind = 1
+
+abbrev pub badNumber : ℕ
+badNumber = 2
+
+abbrev pub noTickLeft : ℕ
+noTickLeft = 3
+
+abbrev pub secondEvent : ℕ
+secondEvent = 4
+
+abbrev pub alreadyIn : ℕ
+alreadyIn = 5
+
+abbrev pub notIn : ℕ
+notIn = 6
+
+abbrev pub badList : ℕ
+badList = 7
+
+abbrev pub badGroup : ℕ
+badGroup = 9
+
+-- the judge: 10 to 14
+abbrev pub lateNow : ℕ
+lateNow = 10
+
+abbrev pub longModel : ℕ
+longModel = 11
+
+abbrev pub longSheet : ℕ
+longSheet = 12
+
+abbrev pub badModel : ℕ
+badModel = 13
+
+abbrev pub badSheet : ℕ
+badSheet = 14
