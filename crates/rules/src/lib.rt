@@ -2,7 +2,9 @@
 
 // Models, sheets and groups are numbered from 0, below these.
 pub const MODELS: u32 = 64;
+
 pub const SHEETS: u32 = 256;
+
 pub const GROUPS: u32 = 16;
 // Ticks count from 1 up to this.
 pub const TICKS: u32 = 1000000;
@@ -11,29 +13,47 @@ pub const EVENTS: usize = 4096;
 
 // Kinds: strict and liberal join, leave, add, remove.
 pub const SJ: u32 = 0;
+
 pub const LJ: u32 = 1;
+
 pub const SL: u32 = 2;
+
 pub const LL: u32 = 3;
+
 pub const SA: u32 = 4;
+
 pub const LA: u32 = 5;
+
 pub const SR: u32 = 6;
+
 pub const LR: u32 = 7;
 // A carrier's kind in a tick without an event of its own.
 pub const QUIET: u32 = 8;
 
 // Refusals of a request, a close, a read, a list of groups and a fresh group.
 pub const BAD_KIND: u32 = 1;
+
 pub const BAD_NUMBER: u32 = 2;
+
 pub const NO_TICK_LEFT: u32 = 3;
+
 pub const SECOND_EVENT: u32 = 4;
+
 pub const ALREADY_IN: u32 = 5;
+
 pub const NOT_IN: u32 = 6;
+
 pub const BAD_LIST: u32 = 7;
+
 pub const BAD_GROUP: u32 = 9;
 
 // Refusals of the judge.
 pub const LATE_NOW: u32 = 10;
+
 pub const LONG_MODEL: u32 = 11;
+
 pub const LONG_SHEET: u32 = 12;
+
 pub const BAD_MODEL: u32 = 13;
+
 pub const BAD_SHEET: u32 = 14;

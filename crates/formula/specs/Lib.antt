@@ -1,0 +1,6 @@
+pub mod Answer
+pub mod Formula
+pub mod Judged
+pub mod Since
+pub mod Ticks
+pub mod Verdict

@@ -1,0 +1,53 @@
+// What the judge answers, and document 01's number and value for each case.
+ghost use mathlib.Core.Path.{_≡_};
+ghost use Rattle.formula.specs.Answer.{numberOf, valueOf};
+
+// A tick where a bracket of the formula holds.
+pub enum Moment {
+    Add(u32),
+    Join(u32),
+}
+
+// Why a grant is not there.
+pub enum Cause {
+    None,
+    StrictLeave,
+    StrictRemove,
+}
+
+pub enum Verdict {
+    Granted(Moment),
+    Denied(Cause),
+    // a refusal number and its place
+    Refused(u32, u32),
+}
+
+pub fn number(v: Verdict) -> u32
+    ensures { λ r. ⌜ r ≡ numberOf v ⌝ }
+{
+    match v {
+        Verdict::Granted(moment) => match moment {
+            Moment::Add(_) => 101,
+            Moment::Join(_) => 102,
+        },
+        Verdict::Denied(cause) => match cause {
+            Cause::None => 103,
+            Cause::StrictLeave => 104,
+            Cause::StrictRemove => 105,
+        },
+        Verdict::Refused(refusal, _) => refusal,
+    }
+}
+
+pub fn value(v: Verdict) -> u32
+    ensures { λ r. ⌜ r ≡ valueOf v ⌝ }
+{
+    match v {
+        Verdict::Granted(moment) => match moment {
+            Moment::Add(tick) => tick,
+            Moment::Join(tick) => tick,
+        },
+        Verdict::Denied(_) => 0,
+        Verdict::Refused(_, place) => place,
+    }
+}
