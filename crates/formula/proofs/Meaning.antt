@@ -6,7 +6,7 @@ use lib.Dec.{eqb}
 use Rattle.rules.specs.Kinds as kinds
 use Rattle.formula.specs.Since.{since}
 use Rattle.formula.specs.Formula.{History, SL, SR, ByAdd, ByJoin, Grant, Moment, Strict}
-use Rattle.formula.specs.Ticks.{inside, liberal, byAdd, byJoin, moment, strict, grant, isJoin, isAdd}
+use Rattle.formula.specs.Ticks.{inside, liberal, byAdd, byJoin, moment, strict, grant}
 use Rattle.formula.proofs.Says.{Says, says-eq, says-or, says-and, says-neither, says-since}
 
 module _ (model sheet : History) where

@@ -5,10 +5,10 @@ use mathlib.Core.Bool.{Bool, true, false, not, _&&_, _||_}
 use Prim.Native.Nat.{ℕ, zero, suc, _≤_, _<_}
 use native.Mathlib.Omega.{arith}
 use lib.Dec.{eqb}
-use Rattle.rules.specs.Kinds.{LJ, SL, LA, SR, quiet}
+use Rattle.rules.specs.Kinds.{LJ, SL, LA, SR, quiet, isJoin, isLeave, isAdd, isRemove}
 use Rattle.formula.specs.Since.{since}
 use Rattle.formula.specs.Formula.{History}
-use Rattle.formula.specs.Ticks.{isJoin, isLeave, isRemove, isAdd, inside, liberal, byAdd, byJoin, moment, strict, grant}
+use Rattle.formula.specs.Ticks.{inside, liberal, byAdd, byJoin, moment, strict, grant}
 
 -- two sinces with one p are one since
 join-since : (a b p x y : Bool) → (a || (p && x)) || (b || (p && y)) ≡ (a || b) || (p && (x || y))

@@ -2,21 +2,9 @@
 use Prim.Native.Nat.{ℕ}
 use mathlib.Core.Bool.{Bool, not, _&&_, _||_}
 use lib.Dec.{eqb}
-use Rattle.rules.specs.Kinds.{SJ, LJ, SL, LL, SA, LA, SR, LR}
+use Rattle.rules.specs.Kinds.{LJ, SL, LA, SR, isJoin, isLeave, isAdd, isRemove}
 use Rattle.formula.specs.Since.{since}
 use Rattle.formula.specs.Formula.{History}
-
-abbrev pub isJoin : ℕ → Bool
-isJoin k = eqb k SJ || eqb k LJ
-
-abbrev pub isLeave : ℕ → Bool
-isLeave k = eqb k SL || eqb k LL
-
-abbrev pub isAdd : ℕ → Bool
-isAdd k = eqb k SA || eqb k LA
-
-abbrev pub isRemove : ℕ → Bool
-isRemove k = eqb k SR || eqb k LR
 
 -- the model is in: (no SL and no LL) since a join
 unfoldable pub inside : History → ℕ → Bool

@@ -1,0 +1,66 @@
+-- The judge's pass, tick by tick: what the code follows. proofs/Standing.antt shows that it tells the verdict of the formula.
+use Prim.Native.Nat.{ℕ, zero, suc}
+use mathlib.Core.Bool.{Bool, false, cond, not, _&&_, _||_}
+use mathlib.Core.List.{List}
+use lib.Dec.{eqb, ltb}
+use lib.ListN.{length, getD}
+use Rattle.rules.specs.Kinds.{LJ, SL, LA, SR, quiet, isJoin, isLeave, isAdd, isRemove}
+use Rattle.event.specs.Word.{tickOf, kindOf}
+use Rattle.formula.specs.Formula.{History}
+use Rattle.formula.specs.declared.Verdict.{Verdict}
+use Rattle.formula.specs.declared.Verdict.the-variants.{Granted, Denied}
+use Rattle.formula.specs.declared.Moment.the-variants.{Add, Join}
+use Rattle.formula.specs.declared.Cause.the-variants.{None, StrictLeave, StrictRemove}
+use Rattle.judge.specs.scan.declared.Standing.{Standing}
+use Rattle.judge.specs.scan.declared.Standing.the-variants.{Never, ByAdd, ByJoin, Left, Removed}
+use Rattle.judge.specs.scan.declared.Scan.{Scan}
+use Rattle.judge.specs.scan.declared.Head.{Head}
+
+-- a strict event ends a grant and nothing else
+abbrev pub endedBy : Standing → Standing → Standing
+endedBy Never end = Never
+endedBy (ByAdd t) end = end
+endedBy (ByJoin t) end = end
+endedBy (Left t) end = Left t
+endedBy (Removed t) end = Removed t
+
+abbrev pub standsAfter : Standing → ℕ → Bool → Bool → Bool → Bool → Standing
+standsAfter before t byAdd byJoin left removed =
+    cond byAdd (ByAdd t) (cond byJoin (ByJoin t) (cond left (endedBy before (Left t)) (cond removed (endedBy before (Removed t)) before)))
+
+abbrev pub start : Scan
+start = record { inside = false; liberal = false; standing = Never }
+
+-- one tick, with the kinds of the model's and of the sheet's event in it
+abbrev pub stepOf : Scan → ℕ → ℕ → ℕ → Scan
+stepOf scan t model sheet =
+    let inside = isJoin model || (not (isLeave model) && scan .inside) in
+    let liberal = eqb sheet LA || (not (isRemove sheet) && scan .liberal) in
+    record {
+      inside = inside;
+      liberal = liberal;
+      standing = standsAfter (scan .standing) t (isAdd sheet && inside) (eqb model LJ && liberal) (eqb model SL) (eqb sheet SR);
+    }
+
+-- after ticks 1 to t
+unfoldable pub scanTo : History → History → ℕ → Scan
+scanTo model sheet zero = start
+scanTo model sheet (suc t) = stepOf (scanTo model sheet t) (suc t) (model (suc t)) (sheet (suc t))
+
+-- what the standing tells
+abbrev pub toldBy : Standing → Verdict
+toldBy Never = Denied None
+toldBy (ByAdd t) = Granted (Add t)
+toldBy (ByJoin t) = Granted (Join t)
+toldBy (Left t) = Denied StrictLeave
+toldBy (Removed t) = Denied StrictRemove
+
+-- the next event of a strip from place i on; past the end, a tick above any word's
+abbrev pub never : ℕ
+never = 1048576
+
+abbrev pub headOf : List ℕ → ℕ → Head
+headOf s i = cond (ltb i (length s)) (record { tick = tickOf (getD s i 0); kind = kindOf (getD s i 0) }) (record { tick = never; kind = quiet })
+
+abbrev pub kindIn : Head → ℕ → ℕ
+kindIn h t = cond (eqb (h .tick) t) (h .kind) quiet
