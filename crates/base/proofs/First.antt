@@ -20,15 +20,15 @@ None p i = (k : ℕ) → k < i → p k ≡ false
 
 module _ (p : ℕ → Bool) where
   -- one step of the search: found before, found now, or not yet
-  step-found : (n : ℕ) → first p n < n → first p (suc n) ≡ first p n
+  pub step-found : (n : ℕ) → first p n < n → first p (suc n) ≡ first p n
   unfolding first
   step-found n h = simp (lt-ltb (first p n) n h)
 
-  step-now : (n : ℕ) → n ≤ first p n → p n ≡ true → first p (suc n) ≡ n
+  pub step-now : (n : ℕ) → n ≤ first p n → p n ≡ true → first p (suc n) ≡ n
   unfolding first
   step-now n h t = simp (le-ltb (first p n) n h, t)
 
-  step-on : (n : ℕ) → n ≤ first p n → p n ≡ false → first p (suc n) ≡ suc n
+  pub step-on : (n : ℕ) → n ≤ first p n → p n ≡ false → first p (suc n) ≡ suc n
   unfolding first
   step-on n h t = simp (le-ltb (first p n) n h, t)
 

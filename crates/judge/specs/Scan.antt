@@ -11,10 +11,10 @@ use Rattle.formula.specs.declared.Verdict.{Verdict}
 use Rattle.formula.specs.declared.Verdict.the-variants.{Granted, Denied}
 use Rattle.formula.specs.declared.Moment.the-variants.{Add, Join}
 use Rattle.formula.specs.declared.Cause.the-variants.{None, StrictLeave, StrictRemove}
-use Rattle.judge.specs.scan.declared.Standing.{Standing}
-use Rattle.judge.specs.scan.declared.Standing.the-variants.{Never, ByAdd, ByJoin, Left, Removed}
-use Rattle.judge.specs.scan.declared.Scan.{Scan}
-use Rattle.judge.specs.scan.declared.Head.{Head}
+use Rattle.judge.specs.declared.scan.Standing.{Standing}
+use Rattle.judge.specs.declared.scan.Standing.the-variants.{Never, ByAdd, ByJoin, Left, Removed}
+use Rattle.judge.specs.declared.scan.Seen.{Seen}
+use Rattle.judge.specs.declared.scan.Head.{Head}
 
 -- a strict event ends a grant and nothing else
 abbrev pub endedBy : Standing → Standing → Standing
@@ -28,22 +28,22 @@ abbrev pub standsAfter : Standing → ℕ → Bool → Bool → Bool → Bool �
 standsAfter before t byAdd byJoin left removed =
     cond byAdd (ByAdd t) (cond byJoin (ByJoin t) (cond left (endedBy before (Left t)) (cond removed (endedBy before (Removed t)) before)))
 
-abbrev pub start : Scan
+abbrev pub start : Seen
 start = record { inside = false; liberal = false; standing = Never }
 
 -- one tick, with the kinds of the model's and of the sheet's event in it
-abbrev pub stepOf : Scan → ℕ → ℕ → ℕ → Scan
-stepOf scan t model sheet =
-    let inside = isJoin model || (not (isLeave model) && scan .inside) in
-    let liberal = eqb sheet LA || (not (isRemove sheet) && scan .liberal) in
+abbrev pub stepOf : Seen → ℕ → ℕ → ℕ → Seen
+stepOf seen t model sheet =
+    let inside = isJoin model || (not (isLeave model) && seen .inside) in
+    let liberal = eqb sheet LA || (not (isRemove sheet) && seen .liberal) in
     record {
       inside = inside;
       liberal = liberal;
-      standing = standsAfter (scan .standing) t (isAdd sheet && inside) (eqb model LJ && liberal) (eqb model SL) (eqb sheet SR);
+      standing = standsAfter (seen .standing) t (isAdd sheet && inside) (eqb model LJ && liberal) (eqb model SL) (eqb sheet SR);
     }
 
 -- after ticks 1 to t
-unfoldable pub scanTo : History → History → ℕ → Scan
+unfoldable pub scanTo : History → History → ℕ → Seen
 scanTo model sheet zero = start
 scanTo model sheet (suc t) = stepOf (scanTo model sheet t) (suc t) (model (suc t)) (sheet (suc t))
 

@@ -4,7 +4,6 @@ mod scan;
 
 ghost use mathlib.Core.Path.{_≡_};
 ghost use Rattle.judge.specs.Judge.{judgedBy};
-
 use formula::Verdict;
 use strip::Side;
 
@@ -28,5 +27,7 @@ pub fn judge(m: &[u32], s: &[u32], now: u32) -> Verdict
     if bad < s.len() {
         return Verdict::Refused(rules::BAD_SHEET, bad as u32);
     }
-    scan::told(scan::scan(m, s))
+    let seen = scan::scan(m, s);
+    let standing = seen.standing;
+    scan::told(standing)
 }

@@ -9,7 +9,6 @@ ghost use Rattle.rules.specs.Ranges.{events};
 ghost use Rattle.strip.specs.History.{historyOf};
 ghost use Rattle.strip.proofs.Places.{Rising, UpTo};
 ghost use Rattle.judge.specs.Scan.{toldBy, endedBy, standsAfter, start, stepOf, scanTo, headOf, kindIn};
-
 use formula::Cause;
 use formula::Moment;
 use formula::Verdict;
@@ -24,7 +23,7 @@ pub enum Standing {
 }
 
 // What the pass knows after a tick: the model is in, the sheet's liberal stay, how the pair stands.
-pub struct Scan {
+pub struct Seen {
     pub inside: bool,
     pub liberal: bool,
     pub standing: Standing,
@@ -46,17 +45,26 @@ fn ended(before: Standing, end: Standing) -> Standing
     match before {
         Standing::ByAdd(_) => end,
         Standing::ByJoin(_) => end,
-        _ => before,
+        Standing::Never => before,
+        Standing::Left(_) => before,
+        Standing::Removed(_) => before,
     }
 }
 
-fn stands(before: Standing, tick: u32, by_add: bool, by_join: bool, left: bool, removed: bool) -> Standing
-    ensures { λ r. ⌜ r ≡ standsAfter before tick by_add by_join left removed ⌝ }
+fn stands(
+    before: Standing,
+    tick: u32,
+    added: bool,
+    joined: bool,
+    left: bool,
+    removed: bool,
+) -> Standing
+    ensures { λ r. ⌜ r ≡ standsAfter before tick added joined left removed ⌝ }
 {
-    if by_add {
+    if added {
         return Standing::ByAdd(tick);
     }
-    if by_join {
+    if joined {
         return Standing::ByJoin(tick);
     }
     if left {
@@ -69,25 +77,32 @@ fn stands(before: Standing, tick: u32, by_add: bool, by_join: bool, left: bool, 
 }
 
 // One tick with its events.
-fn step(scan: Scan, tick: u32, model: u32, sheet: u32) -> Scan
-    ensures { λ r. ⌜ r ≡ stepOf scan tick model sheet ⌝ }
+fn step(before: Seen, tick: u32, model: u32, sheet: u32) -> Seen
+    ensures { λ r. ⌜ r ≡ stepOf before tick model sheet ⌝ }
 {
     let join = (model == rules::SJ) | (model == rules::LJ);
     let leave = (model == rules::SL) | (model == rules::LL);
     let add = (sheet == rules::SA) | (sheet == rules::LA);
     let remove = (sheet == rules::SR) | (sheet == rules::LR);
-    let inside = join | (!leave & scan.inside);
-    let liberal = (sheet == rules::LA) | (!remove & scan.liberal);
-    let before = scan.standing;
-    let standing = stands(before, tick, add & inside, (model == rules::LJ) & liberal, model == rules::SL, sheet == rules::SR);
-    Scan {
+    let inside = join | (!leave & before.inside);
+    let liberal = (sheet == rules::LA) | (!remove & before.liberal);
+    let stood = before.standing;
+    let standing = stands(
+        stood,
+        tick,
+        add & inside,
+        (model == rules::LJ) & liberal,
+        model == rules::SL,
+        sheet == rules::SR,
+    );
+    Seen {
         inside,
         liberal,
         standing,
     }
 }
 
-fn head(s: &[u32], i: usize) -> Head
+fn next_event(s: &[u32], i: usize) -> Head
     ensures { λ r. ⌜ r ≡ headOf (s .entry .now) i ⌝ }
 {
     if i < s.len() {
@@ -125,11 +140,11 @@ fn beyond(i: usize, h: Head, tick: u32) -> usize
     if h.tick == tick { i + 1 } else { i }
 }
 
-pub fn scan(m: &[u32], s: &[u32]) -> Scan
+pub fn scan(m: &[u32], s: &[u32]) -> Seen
     requires { ⌜ Rising (m .now) × Rising (s .now) × (length (m .now) ≤ events) × (length (s .now) ≤ events) ⌝ }
     ensures { λ r. ⌜ ((n : ℕ) → UpTo n (m .entry .now) → UpTo n (s .entry .now) → r ≡ scanTo (historyOf (m .entry .now)) (historyOf (s .entry .now)) n) ⌝ }
 {
-    let mut seen = Scan {
+    let mut seen = Seen {
         inside: false,
         liberal: false,
         standing: Standing::Never,
@@ -137,8 +152,8 @@ pub fn scan(m: &[u32], s: &[u32]) -> Scan
     let mut i: usize = 0;
     let mut j: usize = 0;
     while i + j < m.len() + s.len() {
-        let a = head(m, i);
-        let b = head(s, j);
+        let a = next_event(m, i);
+        let b = next_event(s, j);
         let tick = earlier(a.tick, b.tick);
         seen = step(seen, tick, kind_in(a, tick), kind_in(b, tick));
         i = beyond(i, a, tick);
@@ -147,10 +162,9 @@ pub fn scan(m: &[u32], s: &[u32]) -> Scan
     seen
 }
 
-pub fn told(scan: Scan) -> Verdict
-    ensures { λ r. ⌜ r ≡ toldBy (scan .standing) ⌝ }
+pub fn told(standing: Standing) -> Verdict
+    ensures { λ r. ⌜ r ≡ toldBy standing ⌝ }
 {
-    let standing = scan.standing;
     match standing {
         Standing::Never => Verdict::Denied(Cause::None),
         Standing::ByAdd(tick) => Verdict::Granted(Moment::Add(tick)),

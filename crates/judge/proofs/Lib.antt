@@ -1,0 +1,3 @@
+-- Laws of the judge's pass.
+pub mod Pass
+pub mod Standing

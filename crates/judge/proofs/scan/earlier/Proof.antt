@@ -1,0 +1,12 @@
+use Rattle.base.proofs.Rules.{answers}
+use Rattle.judge.proofs.scan.earlier.Statement.{statement}
+use Rattle.judge.proofs.scan.earlier.Tie as tie
+
+returns : tie.Need-returns
+returns c = search answers
+
+returns-2 : tie.Need-returns-2
+returns-2 c = search answers
+
+pub earlier-spec : {M : Type 1} → statement M
+earlier-spec = tie.close (tie.spec returns returns-2)

@@ -1,0 +1,12 @@
+use borrow.Author.Needs.{needs}
+use Rattle.judge.proofs.scan.step.Statement.{statement}
+use Rattle.judge.proofs.scan.step.Tie as tie
+
+stands-requires : tie.Need-stands-requires
+stands-requires c κs = search needs
+
+returns : tie.Need-returns
+returns c = rw (c .stands .ensures)
+
+pub step-spec : {M : Type 1} → statement M
+step-spec = tie.close (tie.spec stands-requires returns)
