@@ -1,2 +1,3 @@
+pub mod Evidence
 pub mod Judge
 pub mod Scan
