@@ -1,0 +1,65 @@
+// The gate for C: plain numbers and slices in, one number out.
+ghost use mathlib.Core.Path.{_≡_};
+ghost use Prim.Native.Nat.{_+_, _*_, _/_, _^_, _<_, _≤_};
+ghost use lib.ListN.{length};
+ghost use Rattle.formula.specs.Answer.{numberOf, valueOf};
+ghost use Rattle.rules.specs.Ranges.{events};
+ghost use Rattle.judge.specs.Judge.{judgedBy};
+ghost use Rattle.ferrulebee.specs.Judge.{wholeStrip, stripOf, packed, judgedFrom};
+use formula::Verdict;
+
+// A strip's bytes are whole words, and not too many.
+fn whole(length: usize) -> bool
+    ensures { λ r. ⌜ r ≡ wholeStrip length ⌝ }
+{
+    (length % 4 == 0) & (length <= 4 * rules::EVENTS)
+}
+
+fn wide(x: u32) -> u64
+    ensures { λ r. ⌜ (r ≡ x) × (r < 2 ^ 32) ⌝ }
+{
+    x as u64
+}
+
+// A verdict's number and value in one number.
+fn pack(v: Verdict) -> u64
+    ensures { λ r. ⌜ r ≡ packed v ⌝ }
+{
+    wide(formula::number(v)) * 4294967296 + wide(formula::value(v))
+}
+
+fn judged(m: &[u8], s: &[u8], now: u32) -> Verdict
+    ensures { λ r. ⌜ r ≡ judgedFrom (m .entry .now) (s .entry .now) now ⌝ }
+{
+    if now > rules::TICKS {
+        return Verdict::Refused(rules::LATE_NOW, 0);
+    }
+    if !whole(m.len()) {
+        return Verdict::Refused(rules::LONG_MODEL, 0);
+    }
+    if !whole(s.len()) {
+        return Verdict::Refused(rules::LONG_SHEET, 0);
+    }
+    on_words(m, s, now)
+}
+
+// The strips' words, one strip after the other, and the judge on them.
+fn on_words(m: &[u8], s: &[u8], now: u32) -> Verdict
+    requires { ⌜ (length (m .now) / 4 ≤ events) × (length (s .now) / 4 ≤ events) ⌝ }
+    ensures { λ r. ⌜ r ≡ judgedBy (stripOf (m .entry .now)) (stripOf (s .entry .now)) now ⌝ }
+{
+    let mut model = [0u32; rules::EVENTS];
+    let mut sheet = [0u32; rules::EVENTS];
+    let n = wire::decode(m, &mut model);
+    let k = wire::decode(s, &mut sheet);
+    let a = &model[0..n];
+    let b = &sheet[0..k];
+    judge::judge(a, b, now)
+}
+
+#[no_mangle]
+pub extern "C" fn judge(m: &[u8], s: &[u8], now: u32) -> u64
+    ensures { λ r. ⌜ r ≡ packed (judgedFrom (m .entry .now) (s .entry .now) now) ⌝ }
+{
+    pack(judged(m, s, now))
+}
