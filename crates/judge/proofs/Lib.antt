@@ -1,3 +1,5 @@
 -- Laws of the judge's pass.
+pub mod Histories
 pub mod Pass
+pub mod Promise
 pub mod Standing

@@ -1,0 +1,113 @@
+-- What the promises of the judge and of the evidence say in the formula's words. Assumes nothing.
+use mathlib.Core.Path.{_≡_, refl, sym, ap, _∙_}
+use mathlib.Core.Logic.{_⊎_, inl, inr, ⊎-elim, _↔_}
+use mathlib.Core.List.{List}
+use Prim.Native.Nat.{ℕ, _≤_, _<_}
+use native.Mathlib.Omega.{arith}
+use lib.Dec.{eqb}
+use lib.ListN.{length, getD}
+use borrow.Author.Tests.{le-ltb, eq-eqb, ne-eqb}
+use Rattle.base.proofs.First.{first-is}
+use Rattle.rules.specs.Ranges.{ticks, events}
+use Rattle.rules.specs.Kinds.{quiet, SA, LA, LJ}
+use Rattle.event.specs.Word.{tickOf, kindOf}
+use Rattle.formula.specs.Formula.{Grant, ByAdd, ByJoin}
+use Rattle.formula.specs.Verdict.{verdict}
+use Rattle.formula.specs.Judged.{Judged, by-add, by-join, none, strict-leave, strict-remove}
+use Rattle.formula.specs.declared.Verdict.{Verdict}
+use Rattle.formula.specs.declared.Verdict.the-variants.{Granted}
+use Rattle.formula.specs.declared.Moment.{Moment}
+use Rattle.formula.specs.declared.Moment.the-variants.{Add, Join}
+use Rattle.formula.proofs.Judged.{judged}
+use Rattle.strip.specs.declared.Side.the-variants.{Model, Sheet}
+use Rattle.strip.specs.Good.{Good, firstBad}
+use Rattle.strip.specs.History.{historyOf}
+use Rattle.strip.proofs.Bad.{good-none}
+use Rattle.strip.proofs.Places.{tickAt, Rising, good-rising, history-means}
+use Rattle.judge.specs.Judge.{judgedBy}
+use Rattle.judge.specs.Evidence.{placeOf}
+
+-- no refusal applies
+pub record Accepted (m s : List ℕ) (now : ℕ) : Type 0 where
+  pub tick : now ≤ ticks
+  pub short-m : length m ≤ events
+  pub short-s : length s ≤ events
+  pub good-m : Good Model now m
+  pub good-s : Good Sheet now s
+
+-- two constructors that were equal would make this one
+apart : _≡_ {A = ℕ} 0 1 → ⊥
+apart e = omega arith
+
+module _ (m s : List ℕ) (now : ℕ) (a : Accepted m s now) where
+  judges : judgedBy m s now ≡ verdict (historyOf m) (historyOf s) now
+  judges = simp (
+    le-ltb _ _ (a .tick),
+    le-ltb _ _ (a .short-m),
+    le-ltb _ _ (a .short-s),
+    le-ltb (firstBad Model now m) (length m) (omega (arith, good-none Model now m (a .good-m))),
+    le-ltb (firstBad Sheet now s) (length s) (omega (arith, good-none Sheet now s (a .good-s))),
+  )
+
+  -- the answer to accepted strips is what the formula means: granted or denied, the latest moment, the cause
+  pub judge-means : Judged (historyOf m) (historyOf s) now (judgedBy m s now)
+  judge-means = rw judges (judged (historyOf m) (historyOf s) now)
+
+  -- granted exactly when the formula holds at now
+  abbrev Grants : Verdict → Type 0
+  Grants v = (x : Moment) × (v ≡ Granted x)
+
+  only : (v : Verdict) → Judged (historyOf m) (historyOf s) now v → Grants v ↔ Grant (historyOf m) (historyOf s) now
+  only v (by-add t g l b) = (λ x. g, λ x. (Add t, refl))
+  only v (by-join t g l b) = (λ x. g, λ x. (Join t, refl))
+  only v (none h) = (
+    λ x. absurd (apart (cc (x .1))),
+    λ g. absurd (⊎-elim (λ i. h (i .0) (i .1) (i .2) (inl (i .3))) (λ i. h (i .0) (i .1) (i .2) (inr (i .3))) g),
+  )
+  only v (strict-leave t e g l r b) = (λ x. absurd (apart (cc (x .1))), λ y. absurd (g y))
+  only v (strict-remove t e g l r b) = (λ x. absurd (apart (cc (x .1))), λ y. absurd (g y))
+
+  pub judge-grants : Grants (judgedBy m s now) ↔ Grant (historyOf m) (historyOf s) now
+  judge-grants = only (judgedBy m s now) judge-means
+
+-- where an event of tick t stands in a strip whose ticks rise
+pub record Record (s : List ℕ) (k t : ℕ) : Type 0 where
+  pub inside : placeOf s t < length s
+  pub tick : tickAt s (placeOf s t) ≡ t
+  pub kind : kindOf (getD s (placeOf s t) 0) ≡ k
+
+located : (s : List ℕ) → Rising s → (k t : ℕ) → (k ≡ quiet → ⊥) → historyOf s t ≡ k → Record s k t
+unfolding placeOf
+located s r k t n e =
+    let v = history-means s r k t n .0 e in
+    let at = first-is (λ i. eqb (tickAt s i) t) (length s) (v .place) (v .inside)
+    (λ j h. ne-eqb (tickAt s j) t (λ q. omega (arith, r .up j (v .place) h (v .inside), v .tick))) (eq-eqb _ _ (v .tick)) in
+    record { inside = rw at (v .inside); tick = rw at (v .tick); kind = rw at (v .kind) }
+
+module _ (m s : List ℕ) (now : ℕ) (a : Accepted m s now) (t : ℕ) where
+  moment-add : (v : Verdict) → Judged (historyOf m) (historyOf s) now v → v ≡ Granted (Add t) → ByAdd (historyOf m) (historyOf s) t
+  moment-add v (by-add u g l b) e = let q : u ≡ t = cc e in rw (← q) b
+  moment-add v (by-join u g l b) e = absurd (apart (cc e))
+  moment-add v (none h) e = absurd (apart (cc e))
+  moment-add v (strict-leave u w g l r b) e = absurd (apart (cc e))
+  moment-add v (strict-remove u w g l r b) e = absurd (apart (cc e))
+
+  moment-join : (v : Verdict) → Judged (historyOf m) (historyOf s) now v → v ≡ Granted (Join t) → ByJoin (historyOf m) (historyOf s) t
+  moment-join v (by-join u g l b) e = let q : u ≡ t = cc e in rw (← q) (⊎-elim (λ x. absurd (b x)) (λ y. y) (l .there))
+  moment-join v (by-add u g l b) e = absurd (apart (cc e))
+  moment-join v (none h) e = absurd (apart (cc e))
+  moment-join v (strict-leave u w g l r b) e = absurd (apart (cc e))
+  moment-join v (strict-remove u w g l r b) e = absurd (apart (cc e))
+
+  -- the evidence by add starts with the sheet's add record of the moment's tick
+  pub evidence-add : judgedBy m s now ≡ Granted (Add t) → Record s SA t ⊎ Record s LA t
+  evidence-add e =
+      let r = good-rising Sheet now s (a .good-s) in
+      ⊎-elim
+      (λ x. inl (located s r SA t (λ q. omega arith) x))
+      (λ y. inr (located s r LA t (λ q. omega arith) y))
+      (moment-add (judgedBy m s now) (judge-means m s now a) e .0)
+
+  -- the evidence by join starts with the model's liberal join
+  pub evidence-join : judgedBy m s now ≡ Granted (Join t) → Record m LJ t
+  evidence-join e = located m (good-rising Model now m (a .good-m)) LJ t (λ q. omega arith) (moment-join (judgedBy m s now) (judge-means m s now a) e .0)
