@@ -1,0 +1,3 @@
+-- Laws that the proofs of other crates cite.
+pub mod Accepted
+pub mod Carrier
