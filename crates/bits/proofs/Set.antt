@@ -75,7 +75,7 @@ words-none n k = rw (getD-none n k) (omega arith)
 -- ---- sets made word by word
 
 -- what a table of n words holds at any place: past its end nothing
-words-table : (n : ℕ) (f : ℕ → ℕ) → ((k : ℕ) → f k < 2 ^ width) → Words (table n f)
+pub words-table : (n : ℕ) (f : ℕ → ℕ) → ((k : ℕ) → f k < 2 ^ width) → Words (table n f)
 words-table n f h k = ⊎-elim
     (λ t. rw (getD-table n f k 0 (ltb-true _ _ t)) (h k))
     (λ e.

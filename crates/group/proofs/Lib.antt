@@ -1,3 +1,6 @@
 -- Laws that the proofs of other crates cite.
 pub mod Accepted
 pub mod Carrier
+pub mod Close
+pub mod Fits
+pub mod Request

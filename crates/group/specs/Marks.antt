@@ -31,6 +31,16 @@ sheetMarked g s = mark g SA s || mark g LA s || mark g SR s || mark g LR s
 abbrev pub carrierMarked : Group → ℕ → ℕ → Bool
 carrierMarked g kind n = cond (ofModel kind) (modelMarked g n) (sheetMarked g n)
 
--- "A read answers as of the last close; open requests don't show": so do the refusals 5 and 6
+-- "A read answers as of the last close; open requests don't show": so do these, by which 5 and 6 are refused
+abbrev pub modelIn : Group → ℕ → Bool
+modelIn g m = bit (g .members) m
+
+abbrev pub sheetIn : Group → ℕ → Bool
+sheetIn g s = has (g .added) s
+
 abbrev pub carrierIn : Group → ℕ → ℕ → Bool
-carrierIn g kind n = cond (ofModel kind) (bit (g .members) n) (has (g .added) n)
+carrierIn g kind n = cond (ofModel kind) (modelIn g n) (sheetIn g n)
+
+-- the sheet is in, and by LA
+abbrev pub sheetInByLA : Group → ℕ → Bool
+sheetInByLA g s = has (g .liberal) s
