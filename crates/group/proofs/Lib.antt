@@ -4,3 +4,4 @@ pub mod Carrier
 pub mod Close
 pub mod Fits
 pub mod Request
+pub mod View

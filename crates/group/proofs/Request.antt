@@ -31,7 +31,7 @@ use Rattle.group.proofs.Carrier.{sheet-number}
 pub sheet-word : (n : ℕ) (ws : List ℕ) → Sized sheetWords ws → n < sheets → n / width < length ws
 sheet-word n ws z h = let l = z .long in omega arith
 
-bit-marked : (k word kind n i : ℕ) → bit (markedWord k word kind n) i ≡ bit word i || (eqb kind k && eqb i n)
+pub bit-marked : (k word kind n i : ℕ) → bit (markedWord k word kind n) i ≡ bit word i || (eqb kind k && eqb i n)
 bit-marked k word kind n i = ⊎-elim
     (λ (t : eqb kind k ≡ true). simp (t, bit-with))
     (λ (f : eqb kind k ≡ false). simp (f, or-false))
