@@ -3,5 +3,7 @@ pub mod Accepted
 pub mod Carrier
 pub mod Close
 pub mod Fits
+pub mod Held
+pub mod Lent
 pub mod Request
 pub mod View

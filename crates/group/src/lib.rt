@@ -394,3 +394,12 @@ impl Group {
         }
     }
 }
+
+// A request on a group lent and marked where it stands; a refusal leaves it as it was.
+pub fn request_at(g: &mut Group, kind: u32, number: u32) -> u32
+    ensures { λ r. ⌜ (r ≡ requestAnswer (now (g .entry)) kind number .code) × (now (g .exit) ≡ requestAnswer (now (g .entry)) kind number .group) ⌝ }
+{
+    let asked = (*g).request(kind, number);
+    *g = asked.group;
+    asked.code
+}
