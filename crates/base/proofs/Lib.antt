@@ -1,3 +1,6 @@
 -- Laws that the proofs of other crates cite.
 pub mod First
+pub mod Front
+pub mod HowMany
 pub mod Rules
+pub mod Table

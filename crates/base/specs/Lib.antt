@@ -1,1 +1,3 @@
 pub mod First
+pub mod HowMany
+pub mod Table

@@ -1,0 +1,4 @@
+-- Laws that the proofs of other crates cite.
+pub mod Bit
+pub mod Ones
+pub mod Set

@@ -1,0 +1,21 @@
+-- The bit of a word at a place, and a word after a tick.
+use mathlib.Core.Bool.{Bool}
+use Prim.Native.Nat.{ℕ, _-_, _/_, _%_, _^_}
+use lib.Dec.{eqb}
+use lib.Bits.{bitAnd, bitOr}
+
+-- how many bits a word has
+abbrev pub width : ℕ
+width = 64
+
+-- bit i of w is set
+unfoldable pub bit : ℕ → ℕ → Bool
+bit w i = eqb (w / 2 ^ i % 2) 1
+
+-- w with bit i set
+abbrev pub withBit : ℕ → ℕ → ℕ
+withBit w i = bitOr w (2 ^ i)
+
+-- what is in after a tick: what was in and is not gone, and what has come
+abbrev pub afterWord : ℕ → ℕ → ℕ → ℕ
+afterWord was gone come = bitOr (bitAnd was ((2 ^ width - 1) - gone)) come

@@ -1,0 +1,2 @@
+pub mod Bit
+pub mod Set

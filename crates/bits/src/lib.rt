@@ -1,0 +1,82 @@
+// Bits of words, and sets of numbers below 256 kept as four words.
+ghost use mathlib.Core.Path.{_≡_};
+ghost use mathlib.Core.Bool.{true, cond};
+ghost use Prim.Native.Nat.{_<_};
+ghost use Rattle.base.specs.HowMany.{howMany};
+ghost use Rattle.bits.specs.Bit.{width, bit, withBit, afterWord};
+ghost use Rattle.bits.specs.Set.{has, with, either, after};
+
+// How many bits a word has.
+pub const WIDTH: u32 = 64;
+
+pub fn has_bit(word: u64, place: u32) -> bool
+    requires { ⌜ place < width ⌝ }
+    ensures { λ r. ⌜ r ≡ bit word place ⌝ }
+{
+    (word >> place) & 1 == 1
+}
+
+pub fn with_bit(word: u64, place: u32) -> u64
+    requires { ⌜ place < width ⌝ }
+    ensures { λ r. ⌜ r ≡ withBit word place ⌝ }
+{
+    word | 1 << place
+}
+
+pub fn after_word(was: u64, gone: u64, come: u64) -> u64
+    ensures { λ r. ⌜ r ≡ afterWord was gone come ⌝ }
+{
+    was & !gone | come
+}
+
+// A choice of words without a branch where it is used.
+pub fn choose(when: bool, a: u64, b: u64) -> u64
+    ensures { λ r. ⌜ r ≡ cond when a b ⌝ }
+{
+    if when { a } else { b }
+}
+
+// How many bits of a word are set.
+pub fn count(word: u64) -> u32
+    ensures { λ r. ⌜ r ≡ howMany (bit word) width ⌝ }
+{
+    u64::count_ones(word)
+}
+
+pub fn set_has(words: [u64; 4], number: u32) -> bool
+    requires { ⌜ number < 256 ⌝ }
+    ensures { λ r. ⌜ r ≡ has words number ⌝ }
+{
+    let k = (number / WIDTH) as usize;
+    has_bit(words[k], number % WIDTH)
+}
+
+pub fn set_with(words: [u64; 4], number: u32) -> [u64; 4]
+    requires { ⌜ number < 256 ⌝ }
+    ensures { λ r. ⌜ r ≡ with words number ⌝ }
+{
+    let k = (number / WIDTH) as usize;
+    let mut out = words;
+    out[k] = with_bit(out[k], number % WIDTH);
+    out
+}
+
+pub fn set_either(a: [u64; 4], b: [u64; 4]) -> [u64; 4]
+    ensures { λ r. ⌜ r ≡ either 4 a b ⌝ }
+{
+    let mut out = a;
+    for k in 0..4usize {
+        out[k] = out[k] | b[k];
+    }
+    out
+}
+
+pub fn set_after(was: [u64; 4], gone: [u64; 4], come: [u64; 4]) -> [u64; 4]
+    ensures { λ r. ⌜ r ≡ after 4 was gone come ⌝ }
+{
+    let mut out = was;
+    for k in 0..4usize {
+        out[k] = after_word(out[k], gone[k], come[k]);
+    }
+    out
+}

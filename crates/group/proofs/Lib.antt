@@ -1,0 +1,9 @@
+-- Laws that the proofs of other crates cite.
+pub mod Accepted
+pub mod Carrier
+pub mod Close
+pub mod Fits
+pub mod Held
+pub mod Lent
+pub mod Request
+pub mod View

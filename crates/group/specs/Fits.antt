@@ -1,0 +1,31 @@
+-- What holds of the words of every group that a machine holds: each fits its place, and each list is as long as its array.
+use mathlib.Core.Path.{_≡_}
+use mathlib.Core.List.{List}
+use Prim.Native.Nat.{ℕ, _^_, _<_}
+use lib.ListN.{length}
+use Rattle.rules.specs.Ranges.{sheets}
+use Rattle.bits.specs.Bit.{width}
+use Rattle.bits.specs.Set.{Words}
+use Rattle.group.specs.Carrier.{sheetWords}
+use Rattle.group.specs.declared.Group.{Group}
+
+-- n words
+pub record Sized (n : ℕ) (ws : List ℕ) : Type 0 where
+  pub long : length ws ≡ n
+  pub words : Words ws
+
+pub record Fits (g : Group) : Type 0 where
+  pub number : g .number < 2 ^ 32
+  pub closed : g .closed < 2 ^ 32
+  pub members : g .members < 2 ^ width
+  pub sj : g .sj < 2 ^ width
+  pub lj : g .lj < 2 ^ width
+  pub sl : g .sl < 2 ^ width
+  pub ll : g .ll < 2 ^ width
+  pub added : Sized sheetWords (g .added)
+  pub liberal : Sized sheetWords (g .liberal)
+  pub sa : Sized sheetWords (g .sa)
+  pub la : Sized sheetWords (g .la)
+  pub sr : Sized sheetWords (g .sr)
+  pub lr : Sized sheetWords (g .lr)
+  pub grants : Sized sheets (g .grants)

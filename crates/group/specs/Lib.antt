@@ -1,0 +1,10 @@
+pub mod Accepted
+pub mod Carrier
+pub mod Close
+pub mod Count
+pub mod Fits
+pub mod Fresh
+pub mod Marks
+pub mod Read
+pub mod Request
+pub mod View
