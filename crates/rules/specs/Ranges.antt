@@ -18,3 +18,10 @@ ticks = 1000000
 -- the most events in a strip, and records in a book
 abbrev pub events : ℕ
 events = 4096
+
+-- the bytes of a book's header, which is the offset of its records, and of the longest book
+abbrev pub bookHeader : ℕ
+bookHeader = 20
+
+abbrev pub longestBook : ℕ
+longestBook = 16404
