@@ -1,0 +1,2 @@
+-- Laws of books: what the proofs of this crate's functions, and other crates, cite.
+pub mod Pass
