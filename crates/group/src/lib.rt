@@ -196,24 +196,20 @@ impl Group {
         if number >= carriers_of(kind) {
             return BAD_NUMBER;
         }
-        if self.closed >= TICKS {
+        let full = self.closed >= TICKS;
+        let marked = self.carrier_marked(kind, number);
+        let inside = self.carrier_in(kind, number);
+        let entering = is_entering(kind);
+        if full {
             return NO_TICK_LEFT;
         }
-        if self.carrier_marked(kind, number) {
+        if marked {
             return SECOND_EVENT;
         }
-        if is_entering(kind) {
-            if self.carrier_in(kind, number) {
-                ALREADY_IN
-            } else {
-                0
-            }
+        if entering {
+            if inside { ALREADY_IN } else { 0 }
         } else {
-            if self.carrier_in(kind, number) {
-                0
-            } else {
-                NOT_IN
-            }
+            if inside { 0 } else { NOT_IN }
         }
     }
 
@@ -335,7 +331,7 @@ impl Group {
         let code = self.request_refusal(kind, number);
         if code == 0 {
             return Answer {
-                code: 0,
+                code: code,
                 group: self.marked(kind, number),
             };
         }
@@ -348,15 +344,15 @@ impl Group {
     pub fn close(self) -> Answer
         ensures { λ r. ⌜ r ≡ closeAnswer self ⌝ }
     {
-        if self.closed >= TICKS {
+        if self.closed < TICKS {
             return Answer {
-                code: NO_TICK_LEFT,
-                group: self,
+                code: 0,
+                group: self.after_close(),
             };
         }
         Answer {
-            code: 0,
-            group: self.after_close(),
+            code: NO_TICK_LEFT,
+            group: self,
         }
     }
 
