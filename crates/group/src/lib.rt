@@ -275,6 +275,11 @@ impl Group {
         requires { ⌜ self .closed < ticks ⌝ }
         ensures { λ r. ⌜ r ≡ closedGroup self ⌝ }
     {
+        let closed = self.closed + 1;
+        let sj = self.sj;
+        let lj = self.lj;
+        let sl = self.sl;
+        let ll = self.ll;
         let sa = self.sa;
         let la = self.la;
         let sr = self.sr;
@@ -282,15 +287,15 @@ impl Group {
         let was_added = self.added;
         let was_liberal = self.liberal;
         let words = self.grants;
-        let members = bits::after_word(self.members, self.sl | self.ll, self.sj | self.lj);
+        let members = bits::after_word(self.members, sl | ll, sj | lj);
         let removes = bits::set_either(sr, lr);
         let adds = bits::set_either(sa, la);
         let added = bits::set_after(was_added, removes, adds);
         let liberal = bits::set_after(was_liberal, removes, la);
-        let grants = close_words(words, sr, adds, liberal, members, self.sl, self.lj);
+        let grants = close_words(words, sr, adds, liberal, members, sl, lj);
         Group {
             number: self.number,
-            closed: self.closed + 1,
+            closed: closed,
             members: members,
             sj: 0,
             lj: 0,
