@@ -1,7 +1,7 @@
 -- `group::Group::request` meets its contract: the mark is set only where no refusal is given.
 use mathlib.Core.Path.{sym, _∙_}
 use borrow.Author.Tests.{ne-eqb}
-use Rattle.group.specs.Request.{requestRefusal, requestAnswer}
+use Rattle.group.specs.Request.{requestAnswer}
 use Rattle.group.proofs.Accepted.{accepted}
 use borrow.Author.Needs.{needs}
 use Rattle.group.proofs.Group.request.Statement.{statement}

@@ -8,7 +8,6 @@ use Rattle.rules.specs.Ranges.{ticks}
 use Rattle.rules.specs.Refusals.{noTickLeft, secondEvent, alreadyIn, notIn}
 use Rattle.group.specs.Carrier.{carriers}
 use Rattle.group.specs.Request.{requestRefusal}
-use Rattle.group.specs.declared.Group.{Group}
 use borrow.Author.Needs.{needs}
 use Rattle.group.proofs.Group.request_refusal.Statement.{statement}
 use Rattle.group.proofs.Group.request_refusal.Tie as tie
