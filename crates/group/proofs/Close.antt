@@ -1,13 +1,12 @@
 -- What a close does, bit by bit: who is in, what is in, and who may read what. Assumes nothing.
-use mathlib.Core.Path.{_≡_, refl, sym, ap, ap₂, _∙_}
-use mathlib.Core.Bool.{Bool, true, false, not, cond, _&&_, _||_, or-assoc}
-use mathlib.Core.List.{List}
+use mathlib.Core.Path.{_≡_, refl, ap, _∙_}
+use mathlib.Core.Bool.{Bool, true, false, not, cond, _&&_, _||_}
 use mathlib.Core.Logic.{⊎-elim}
-use Prim.Native.Nat.{ℕ, zero, suc, _+_, _-_, _/_, _^_, _≤_, _<_}
+use Prim.Native.Nat.{ℕ, zero, suc, _+_, _/_, _^_, _≤_, _<_}
 use native.Mathlib.Omega.{arith}
 use lib.Dec.{leb}
-use lib.Bits.{bitAnd, bitOr, or-lt}
-use lib.ListN.{length, getD}
+use lib.Bits.{bitOr, or-lt}
+use lib.ListN.{getD}
 use borrow.Author.Tests.{leb-false, le-leb, lt-leb}
 use Rattle.base.proofs.First.{either as truth}
 use Rattle.base.proofs.Table.{getD-table}
@@ -24,7 +23,6 @@ use Rattle.group.specs.Fits.{Fits}
 use Rattle.group.specs.Marks.{mark, modelIn, sheetIn, sheetInByLA}
 use Rattle.group.specs.Read.{granted}
 use Rattle.group.specs.declared.Group.{Group}
-use Rattle.group.specs.declared.Answer.{Answer}
 
 -- ---- a word
 

@@ -1,6 +1,6 @@
 -- What a request does to a group: it moves one mark, or nothing. Assumes nothing.
 use mathlib.Core.Path.{_≡_, refl, sym}
-use mathlib.Core.Bool.{Bool, true, false, cond, _&&_, _||_, or-false}
+use mathlib.Core.Bool.{true, false, _&&_, _||_, or-false}
 use mathlib.Core.List.{List}
 use mathlib.Core.Logic.{⊎-elim}
 use Prim.Native.Nat.{ℕ, zero, suc, _/_, _≤_, _<_}
@@ -21,7 +21,6 @@ use Rattle.group.specs.Fits.{Sized, Fits}
 use Rattle.group.specs.Marks.{mark}
 use Rattle.group.specs.Request.{requestRefusal, markedWord, markedSet, markedGroup, requestAnswer}
 use Rattle.group.specs.declared.Group.{Group}
-use Rattle.group.specs.declared.Answer.{Answer}
 use Rattle.group.proofs.Accepted.{accepted}
 use Rattle.group.proofs.Carrier.{sheet-number}
 
