@@ -1,0 +1,51 @@
+// The look at the granted sheets before a byte is written: the first faulty one, and the sums up to it.
+ghost use mathlib.Core.Path.{_≡_};
+ghost use mathlib.Core.Bool.{true};
+ghost use Prim.Native.Nat.{_/_, _%_, _^_, _<_};
+ghost use lib.Dec.{eqb};
+ghost use Rattle.store.specs.Store.{goodStore};
+ghost use Rattle.store.specs.Checked.{checked};
+
+pub struct Checked {
+    // the first faulty sheet; 256 where there is none
+    pub stop: u32,
+    // how many granted sheets stand before it
+    pub count: u32,
+    // how long their delivery is
+    pub total: u64,
+}
+
+// Bit `model` of a sheet's grant word.
+pub fn is_granted(word: u64, model: u32) -> bool
+    requires { ⌜ model < 64 ⌝ }
+    ensures { λ r. ⌜ r ≡ eqb (word / 2 ^ model % 2) 1 ⌝ }
+{
+    (word >> model) & 1 == 1
+}
+
+pub fn check(grants: &[u64; 256], model: u32, store: &[u8]) -> Checked
+    requires { ⌜ (model < 64) × (goodStore (now store) ≡ true) ⌝ }
+    ensures { λ r. ⌜ (r ≡ checked (now (grants .entry)) model (now (store .entry))) × (r .total < 2 ^ 32) ⌝ }
+{
+    let mut count: u32 = 0;
+    let mut total: u64 = 8;
+    for sheet in 0..rules::SHEETS {
+        if !is_granted(grants[sheet as usize], model) {
+            continue;
+        }
+        if super::table::entry_fault(store, sheet) != 0 {
+            return Checked {
+                stop: sheet,
+                count,
+                total,
+            };
+        }
+        count += 1;
+        total = total + 8 + super::table::size_of(store, sheet);
+    }
+    Checked {
+        stop: rules::SHEETS,
+        count,
+        total,
+    }
+}
