@@ -50,7 +50,7 @@ module _ (grants : List ℕ) (m : ℕ) (b before : List ℕ) where
         record {
           next = omega (arith, so .next, ap length more);
           filled = ew
-          ∙ ap₂ (λ (o : List ℕ) (k : ℕ). put o k (part b s)) (so .filled) (so .next)
-          ∙ put-next before 8 sofar (fits s h) (part b s)
-          ∙ ap (put before 8) more;
+              ∙ ap₂ (λ (o : List ℕ) (k : ℕ). put o k (part b s)) (so .filled) (so .next)
+              ∙ put-next before 8 sofar (fits s h) (part b s)
+              ∙ ap (put before 8) more;
         }

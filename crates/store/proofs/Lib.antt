@@ -1,4 +1,5 @@
 -- Laws that the proofs of several functions, and other crates, cite.
+pub mod Answer
 pub mod Entry
 pub mod Fault
 pub mod Filled

@@ -32,8 +32,6 @@ pub fn deliver(grants: &[u64; 256], model: u32, store: &[u8], out: &mut [u8]) ->
     if (out.len() as u64) < total {
         return Delivery::Refused(rules::DELIVERY_TOO_LONG, 0);
     }
-    wire::write32(&mut *out, 0, seen.count);
-    wire::write32(&mut *out, 4, total as u32);
-    write::write_parts(grants, model, store, out);
+    write::write_delivery(grants, model, store, seen.count, total as u32, out);
     Delivery::Delivered(total as u32)
 }

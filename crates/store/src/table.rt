@@ -15,7 +15,10 @@ pub fn good_store(store: &[u8]) -> bool
     }
     let total = wire::read32(store, 0) as usize;
     let n = sheet_count(store);
-    (len <= rules::STORE_BYTES) & (total == len) & (n <= rules::SHEETS) & (8 + 8 * (n as usize) <= total)
+    (len <= rules::STORE_BYTES)
+        & (total == len)
+        & (n <= rules::SHEETS)
+        & (8 + 8 * (n as usize) <= total)
 }
 
 pub fn sheet_count(store: &[u8]) -> u32

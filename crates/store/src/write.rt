@@ -2,12 +2,13 @@
 ghost use mathlib.Core.Path.{_≡_};
 ghost use mathlib.Core.Bool.{true};
 ghost use Prim.Native.Nat.{_+_, _*_, _≤_, _<_};
-ghost use lib.ListN.{length};
+ghost use mathlib.Core.List.{_++_};
+ghost use lib.ListN.{length, drop};
 ghost use Rattle.wire.specs.Put.{put};
 ghost use Rattle.store.specs.Store.{goodStore};
 ghost use Rattle.store.specs.Entry.{offset, size};
 ghost use Rattle.store.specs.Fault.{firstFaulty};
-ghost use Rattle.store.specs.Delivery.{part, parts, grantedSheets, deliveryLength};
+ghost use Rattle.store.specs.Delivery.{part, parts, grantedSheets, deliveryLength, deliveryOf};
 
 // One plain forward loop, which the compiler makes a block copy.
 fn copy(from: &[u8], to: &mut [u8])
@@ -35,7 +36,8 @@ fn write_part(store: &[u8], sheet: u32, out: &mut [u8], at: usize) -> usize
     next
 }
 
-pub fn write_parts(grants: &[u64; 256], model: u32, store: &[u8], out: &mut [u8])
+// Writes the parts of the granted sheets, by rising number, behind the first two words.
+fn write_parts(grants: &[u64; 256], model: u32, store: &[u8], out: &mut [u8])
     requires { ⌜ (model < 64) × (goodStore (now store) ≡ true) × (firstFaulty (now grants) model (now store) ≡ 256) × (deliveryLength (now store) (grantedSheets (now grants) model) ≤ length (now out)) ⌝ }
     ensures { λ _. ⌜ now (out .exit) ≡ put (now (out .entry)) 8 (parts (now (store .entry)) (grantedSheets (now (grants .entry)) model)) ⌝ }
 {
@@ -46,4 +48,21 @@ pub fn write_parts(grants: &[u64; 256], model: u32, store: &[u8], out: &mut [u8]
         }
         at = write_part(store, sheet, &mut *out, at);
     }
+}
+
+// Writes the whole delivery. `count` and `total` are the check's.
+pub fn write_delivery(
+    grants: &[u64; 256],
+    model: u32,
+    store: &[u8],
+    count: u32,
+    total: u32,
+    out: &mut [u8],
+)
+    requires { ⌜ (model < 64) × (goodStore (now store) ≡ true) × (firstFaulty (now grants) model (now store) ≡ 256) × (count ≡ length (grantedSheets (now grants) model)) × (total ≡ deliveryLength (now store) (grantedSheets (now grants) model)) × (total ≤ length (now out)) ⌝ }
+    ensures { λ _. ⌜ now (out .exit) ≡ deliveryOf (now (store .entry)) (grantedSheets (now (grants .entry)) model) ++ drop total (now (out .entry)) ⌝ }
+{
+    wire::write32(&mut *out, 0, count);
+    wire::write32(&mut *out, 4, total);
+    write_parts(grants, model, store, out);
 }

@@ -104,8 +104,7 @@ loop-less-2 c = search needs
 loop-again-2 : tie.Need-loop-again-2 Inv-loop μ-loop
 loop-again-2 c =
     let at = c .before .before .before .before .before .before .before in
-    let start = at .before .before in
-    (
+    let start = at .before .before in (
       search needs,
       rw (c .size-of .ensures .0) (sums-in _ _ _ _ _ _ (at .loop .inv .1) (store-good start) (is-so (c .before .before .before)) (entry-none (c .before))),
     )

@@ -93,8 +93,7 @@ returns c =
     let number = c .before .before .before .before .before .before .before .before .before .before .before .write32 in
     let length = c .before .before .before .before .before .before .before .write322 in
     let bytes = c .before .before .copy in
-    let inside = start .pre .1 in
-    (
+    let inside = start .pre .1 in (
       omega (arith, size .ensures .0, length-part (a .store .now) (a .sheet) inside),
       part-put _ _ _ _ _ _ _ _ _ (offset .ensures .0) (size .ensures .0) inside (start .pre .2) (number .ensures) (length .ensures) (bytes .ensures),
     )
