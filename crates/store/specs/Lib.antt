@@ -4,4 +4,5 @@ pub mod Delivery
 pub mod Entry
 pub mod Fault
 pub mod Granted
+pub mod Ready
 pub mod Store

@@ -3,6 +3,7 @@ ghost use mathlib.Core.Path.{_≡_};
 ghost use mathlib.Core.Bool.{true};
 ghost use Prim.Native.Nat.{_/_, _%_, _^_, _<_};
 ghost use lib.Dec.{eqb};
+ghost use Rattle.rules.specs.Ranges.{models};
 ghost use Rattle.store.specs.Store.{goodStore};
 ghost use Rattle.store.specs.Checked.{checked};
 
@@ -17,14 +18,14 @@ pub struct Checked {
 
 // Bit `model` of a sheet's grant word.
 pub fn is_granted(word: u64, model: u32) -> bool
-    requires { ⌜ model < 64 ⌝ }
+    requires { ⌜ model < models ⌝ }
     ensures { λ r. ⌜ r ≡ eqb (word / 2 ^ model % 2) 1 ⌝ }
 {
     (word >> model) & 1 == 1
 }
 
 pub fn check(grants: &[u64; 256], model: u32, store: &[u8]) -> Checked
-    requires { ⌜ (model < 64) × (goodStore (now store) ≡ true) ⌝ }
+    requires { ⌜ (model < models) × (goodStore (now store) ≡ true) ⌝ }
     ensures { λ r. ⌜ (r ≡ checked (now (grants .entry)) model (now (store .entry))) × (r .total < 2 ^ 32) ⌝ }
 {
     let mut count: u32 = 0;

@@ -15,7 +15,8 @@ pub enum Delivery {
 
 // Delivers from `store` the sheets that `grants` grants the model: sheet s where bit `model` of grants[s] is set.
 pub fn deliver(grants: &[u64; 256], model: u32, store: &[u8], out: &mut [u8]) -> Delivery
-    ensures { λ r. ⌜ (r ≡ answer (now (grants .entry)) model (now (store .entry)) (length (now (out .entry)))) × (now (out .exit) ≡ bufferAfter (now (grants .entry)) model (now (store .entry)) (now (out .entry))) ⌝ }
+    ensures answered { λ r. ⌜ r ≡ answer (now (grants .entry)) model (now (store .entry)) (length (now (out .entry))) ⌝ }
+    ensures left { λ _. ⌜ now (out .exit) ≡ bufferAfter (now (grants .entry)) model (now (store .entry)) (now (out .entry)) ⌝ }
 {
     if model >= rules::MODELS {
         return Delivery::Refused(rules::BAD_NUMBER, 0);

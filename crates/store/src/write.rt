@@ -1,13 +1,11 @@
 // The writing of a delivery, once all is known to be good and to fit.
 ghost use mathlib.Core.Path.{_≡_};
-ghost use mathlib.Core.Bool.{true};
-ghost use Prim.Native.Nat.{_+_, _*_, _≤_, _<_};
 ghost use mathlib.Core.List.{_++_};
+ghost use Prim.Native.Nat.{_+_, _*_, _≤_};
 ghost use lib.ListN.{length, drop};
 ghost use Rattle.wire.specs.Put.{put};
-ghost use Rattle.store.specs.Store.{goodStore};
 ghost use Rattle.store.specs.Entry.{offset, size};
-ghost use Rattle.store.specs.Fault.{firstFaulty};
+ghost use Rattle.store.specs.Ready.{Ready};
 ghost use Rattle.store.specs.Delivery.{part, parts, grantedSheets, deliveryLength, deliveryOf};
 
 // One plain forward loop, which the compiler makes a block copy.
@@ -38,7 +36,7 @@ fn write_part(store: &[u8], sheet: u32, out: &mut [u8], at: usize) -> usize
 
 // Writes the parts of the granted sheets, by rising number, behind the first two words.
 fn write_parts(grants: &[u64; 256], model: u32, store: &[u8], out: &mut [u8])
-    requires { ⌜ (model < 64) × (goodStore (now store) ≡ true) × (firstFaulty (now grants) model (now store) ≡ 256) × (deliveryLength (now store) (grantedSheets (now grants) model) ≤ length (now out)) ⌝ }
+    requires { ⌜ Ready (now grants) model (now store) × (deliveryLength (now store) (grantedSheets (now grants) model) ≤ length (now out)) ⌝ }
     ensures { λ _. ⌜ now (out .exit) ≡ put (now (out .entry)) 8 (parts (now (store .entry)) (grantedSheets (now (grants .entry)) model)) ⌝ }
 {
     let mut at: usize = 8;
@@ -59,7 +57,7 @@ pub fn write_delivery(
     total: u32,
     out: &mut [u8],
 )
-    requires { ⌜ (model < 64) × (goodStore (now store) ≡ true) × (firstFaulty (now grants) model (now store) ≡ 256) × (count ≡ length (grantedSheets (now grants) model)) × (total ≡ deliveryLength (now store) (grantedSheets (now grants) model)) × (total ≤ length (now out)) ⌝ }
+    requires { ⌜ Ready (now grants) model (now store) × (count ≡ length (grantedSheets (now grants) model)) × (total ≡ deliveryLength (now store) (grantedSheets (now grants) model)) × (total ≤ length (now out)) ⌝ }
     ensures { λ _. ⌜ now (out .exit) ≡ deliveryOf (now (store .entry)) (grantedSheets (now (grants .entry)) model) ++ drop total (now (out .entry)) ⌝ }
 {
     wire::write32(&mut *out, 0, count);

@@ -90,7 +90,7 @@ write-delivery-requires : tie.Need-write-delivery-requires
 write-delivery-requires c κs =
     let test = c .before .before .before .before in
     let all = seen-all (c .before .before) in
-    (known test, taken test, all .sound, all .counted, all .summed, c .before .if4 .left)
+    (record { known = known test; taken = taken test; sound = all .sound }, all .counted, all .summed, c .before .if4 .left)
 
 cast-t14 : tie.Need-cast-t14
 cast-t14 c = search needs

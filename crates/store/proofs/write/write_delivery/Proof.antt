@@ -41,7 +41,7 @@ same-length c = search needs
 returns : tie.Need-returns
 returns c =
     let pre = c .before .before .before .before .before .before .before .before .before .before .before .before .before .before .pre in
-    delivery-put _ _ _ _ _ _ _ _ (pre .3) (pre .4) (pre .5)
+    delivery-put _ _ _ _ _ _ _ _ (pre .1) (pre .2) (pre .3)
     (c .before .before .before .before .before .before .before .before .before .before .write32 .ensures)
     (c .before .before .before .before .before .before .write322 .ensures)
     (c .before .before .write-parts .ensures)

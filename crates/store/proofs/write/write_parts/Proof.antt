@@ -34,7 +34,7 @@ is-so c = sym (c .before .is-granted .ensures) ∙ not-false _ (c .if1 .left)
 
 -- the buffer keeps its length
 long : (c : tie.At-loop Inv-loop μ-loop) → length (c .loop .out) ≡ length (c .before .before .before .args .out .now)
-long c = length-filled _ _ _ _ (c .before .before .before .pre .3) _ _ _ (c .loop .inv .0) (c .loop .inv .1)
+long c = length-filled _ _ _ _ (c .before .before .before .pre .1) _ _ _ (c .loop .inv .0) (c .loop .inv .1)
 
 loop-holds : tie.Need-loop-holds Inv-loop μ-loop
 loop-holds c = (search needs, filled-none _ _ _ _)
@@ -49,7 +49,7 @@ element-copy-out-is-granted : tie.Need-element-copy-out-is-granted Inv-loop μ-l
 element-copy-out-is-granted c = search needs
 
 is-granted-requires : tie.Need-is-granted-requires Inv-loop μ-loop
-is-granted-requires c κs = search needs
+is-granted-requires c κs = c .before .before .before .before .before .pre .0 .known
 
 add-sheet : tie.Need-add-sheet Inv-loop μ-loop
 add-sheet c = search needs
@@ -67,10 +67,10 @@ write-part-requires c κs =
     let store = start .args .store .now in
     let sheet = at .loop .sheet in
     let turn = c .before .before .before .before .loop-test .taken in
-    let g = good store (start .pre .1) in
-    let entry = sound store sheet (fault-free _ _ _ _ (start .pre .2) turn (is-so (c .before))) in
+    let g = good store (start .pre .0 .taken) in
+    let entry = sound store sheet (fault-free _ _ _ _ (start .pre .0 .sound) turn (is-so (c .before))) in
     let inside : offset store sheet + size store sheet ≤ length store = omega (arith, entry .within, g .total) in
-    let room = part-fits _ _ _ _ (start .pre .3) _ _ _ turn (at .loop .inv .1) (is-so (c .before)) in
+    let room = part-fits _ _ _ _ (start .pre .1) _ _ _ turn (at .loop .inv .1) (is-so (c .before)) in
     (omega (arith, entry .inside, g .table), inside, omega (arith, room, length-part store sheet inside, long at))
 
 add-sheet-2 : tie.Need-add-sheet-2 Inv-loop μ-loop
@@ -84,7 +84,7 @@ loop-again-2 c =
     let at = c .before .before .before .before .before .before .before .before in
     let start = at .before .before .before in
     let wrote = c .before .before .write-part .ensures in
-    (search needs, filled-in _ _ _ _ (start .pre .3) _ _ _ _ _ (at .loop .inv .0) (at .loop .inv .1) (is-so (c .before .before .before .before)) (wrote .0) (wrote .1))
+    (search needs, filled-in _ _ _ _ (start .pre .1) _ _ _ _ _ (at .loop .inv .0) (at .loop .inv .1) (is-so (c .before .before .before .before)) (wrote .0) (wrote .1))
 
 same-length : tie.Need-same-length Inv-loop μ-loop
 same-length c = long (c .before)
