@@ -33,6 +33,7 @@ pub fn deliver(grants: &[u64; 256], model: u32, store: &[u8], out: &mut [u8]) ->
     if (out.len() as u64) < total {
         return Delivery::Refused(rules::DELIVERY_TOO_LONG, 0);
     }
-    write::write_delivery(grants, model, store, seen.count, total as u32, out);
-    Delivery::Delivered(total as u32)
+    let length = total as u32;
+    write::write_delivery(grants, model, store, seen.count, length, out);
+    Delivery::Delivered(length)
 }

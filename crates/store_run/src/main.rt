@@ -12,6 +12,7 @@ fn main() {
     shared_bytes();
     ungranted_fault();
     first_fault();
+    largest();
 }
 
 // One granted sheet of 5 bytes fits 21 bytes, and gets 34 at 20.
@@ -151,4 +152,15 @@ fn first_fault() {
     show::delivery(b"33 before 32", &grants, 0, &store, 26, 12);
     make::entry(&mut store, 1, 24, 2);
     show::delivery(b"32 behind a good one", &grants, 1, &store, 26, 12);
+}
+
+// A store of 1,048,576 bytes is taken, one of a byte more is not.
+fn largest() {
+    let grants = make::granted(0, 1);
+    let mut store = make::space();
+    make::header(&mut store, 1048576, 1);
+    make::entry(&mut store, 0, 1048575, 1);
+    show::delivery(b"1048576 bytes", &grants, 0, &store, 1048576, 18);
+    make::header(&mut store, 1048577, 1);
+    show::delivery(b"1048577 bytes", &grants, 0, &store, 1048577, 18);
 }

@@ -1,10 +1,19 @@
 // Stores and grants to try.
+ghost use mathlib.Core.Path.{_≡_};
+ghost use lib.ListN.{length};
 
 // Only sheet `sheet` has a grant word.
 pub fn granted(sheet: u8, word: u64) -> [u64; 256] {
     let mut grants = [0u64; 256];
     grants[sheet as usize] = word;
     grants
+}
+
+// One byte more than the largest store.
+pub fn space() -> [u8; 1048577]
+    ensures { λ r. ⌜ 1048577 ≡ length r ⌝ }
+{
+    [0u8; 1048577]
 }
 
 // The word at a place, where the store has room for it.

@@ -83,17 +83,14 @@ returns-4 c =
     let all = seen-all (c .before) in
     promised _ _ _ (a .out .now) _ (answer-long (a .grants .now) (a .model) (a .store .now) (length (a .out .now)) (known test) (taken test) (omega (arith, all .sound)) (omega (arith, all .summed, c .if4 .taken)))
 
-cast-write-delivery : tie.Need-cast-write-delivery
-cast-write-delivery c = search needs
+cast-length : tie.Need-cast-length
+cast-length c = search needs
 
 write-delivery-requires : tie.Need-write-delivery-requires
 write-delivery-requires c κs =
     let test = c .before .before .before .before in
     let all = seen-all (c .before .before) in
     (record { known = known test; taken = taken test; sound = all .sound }, all .counted, all .summed, c .before .if4 .left)
-
-cast-t14 : tie.Need-cast-t14
-cast-t14 c = search needs
 
 same-length : tie.Need-same-length
 same-length c = search needs
@@ -119,8 +116,7 @@ deliver-spec =
     entry-fault-requires
     returns-3
     returns-4
-    cast-write-delivery
+    cast-length
     write-delivery-requires
-    cast-t14
     same-length
     returns-5)

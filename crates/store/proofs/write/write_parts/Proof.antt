@@ -49,7 +49,7 @@ element-copy-out-is-granted : tie.Need-element-copy-out-is-granted Inv-loop μ-l
 element-copy-out-is-granted c = search needs
 
 is-granted-requires : tie.Need-is-granted-requires Inv-loop μ-loop
-is-granted-requires c κs = c .before .before .before .before .before .pre .0 .known
+is-granted-requires c κs = search needs
 
 add-sheet : tie.Need-add-sheet Inv-loop μ-loop
 add-sheet c = search needs
