@@ -17,7 +17,7 @@ use Rattle.wire.proofs.Word.{le32-take}
 use Rattle.store.specs.declared.Delivery.{Delivery}
 use Rattle.store.specs.declared.Delivery.the-variants.{Delivered, Refused}
 use Rattle.store.specs.Store.{totalLength, sheetCount, bytesStart, goodStore}
-use Rattle.store.specs.Entry.{offset, size, goodEntry, entryFault}
+use Rattle.store.specs.Entry.{offset, sheetLength, goodEntry, entryFault}
 use Rattle.store.specs.Granted.{granted, grantedBelow}
 use Rattle.store.specs.Fault.{faulty, firstFaulty}
 use Rattle.store.specs.Delivery.{sheetBytes, part, parts, deliveryLength, deliveryOf, grantedSheets}
@@ -74,7 +74,7 @@ module _ (grants grants′ : List ℕ) (m : ℕ) (b b′ : List ℕ) (same : Agr
   module _ (s : ℕ) (h : s < sheets) (g : granted grants m s ≡ true) where
     same-entry : s < sheetCount b → goodEntry b s ≡ goodEntry b′ s
     unfolding goodEntry
-    same-entry l = simp (same-total, same-count, same .offsets s h g l, same .sizes s h g l)
+    same-entry l = simp (same-total, same-count, same .offsets s h g l, same .lengths s h g l)
 
     same-fault : entryFault b s ≡ entryFault b′ s
     unfolding entryFault
@@ -88,7 +88,7 @@ module _ (grants grants′ : List ℕ) (m : ℕ) (b b′ : List ℕ) (same : Agr
     same-part : entryFault b s ≡ 0 → part b s ≡ part b′ s
     unfolding part
     same-part e =
-        ap₂ (λ (n : ℕ) (l : List ℕ). bytes32 s ++ (bytes32 n ++ l)) (same .sizes s h g (sound b s e .inside)) (same .bytes s h g e)
+        ap₂ (λ (n : ℕ) (l : List ℕ). bytes32 s ++ (bytes32 n ++ l)) (same .lengths s h g (sound b s e .inside)) (same .bytes s h g e)
 
   same-faulty : (s : ℕ) → s < sheets → faulty grants m b s ≡ faulty grants′ m b′ s
   unfolding faulty

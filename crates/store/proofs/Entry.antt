@@ -10,7 +10,7 @@ use borrow.Author.Tests.{lt-ltb, le-ltb, le-leb, lt-leb, ltb-true, leb-true}
 use Rattle.base.proofs.First.{either}
 use Rattle.rules.specs.Refusals.{notInStore, badEntry}
 use Rattle.store.specs.Store.{totalLength, sheetCount, bytesStart}
-use Rattle.store.specs.Entry.{offset, size, goodEntry, entryFault}
+use Rattle.store.specs.Entry.{offset, sheetLength, goodEntry, entryFault}
 use Rattle.store.proofs.Store.{both}
 
 module _ (b : List ℕ) (s : ℕ) where
@@ -22,11 +22,11 @@ module _ (b : List ℕ) (s : ℕ) where
   unfolding entryFault goodEntry
   fault-early h e = simp (lt-ltb _ _ h, lt-leb _ _ e)
 
-  pub fault-late : s < sheetCount b → bytesStart b ≤ offset b s → totalLength b < offset b s + size b s → entryFault b s ≡ badEntry
+  pub fault-late : s < sheetCount b → bytesStart b ≤ offset b s → totalLength b < offset b s + sheetLength b s → entryFault b s ≡ badEntry
   unfolding entryFault goodEntry
   fault-late h e l = simp (lt-ltb _ _ h, le-leb _ _ e, lt-leb _ _ l)
 
-  pub fault-none : s < sheetCount b → bytesStart b ≤ offset b s → offset b s + size b s ≤ totalLength b → entryFault b s ≡ 0
+  pub fault-none : s < sheetCount b → bytesStart b ≤ offset b s → offset b s + sheetLength b s ≤ totalLength b → entryFault b s ≡ 0
   unfolding entryFault goodEntry
   fault-none h e l = simp (lt-ltb _ _ h, le-leb _ _ e, le-leb _ _ l)
 
@@ -34,7 +34,7 @@ module _ (b : List ℕ) (s : ℕ) where
   pub record Sound : Type 0 where
     pub inside : s < sheetCount b
     pub behind : bytesStart b ≤ offset b s
-    pub within : offset b s + size b s ≤ totalLength b
+    pub within : offset b s + sheetLength b s ≤ totalLength b
 
   sound-good : s < sheetCount b → goodEntry b s ≡ true → Sound
   unfolding goodEntry

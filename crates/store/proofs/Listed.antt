@@ -12,7 +12,7 @@ use lib.Seq.{getD-append-seam, drop-at}
 use Rattle.base.proofs.First.{either}
 use Rattle.rules.specs.Ranges.{sheets}
 use Rattle.wire.specs.Word.{le32, bytes32}
-use Rattle.store.specs.Entry.{offset, size}
+use Rattle.store.specs.Entry.{offset, sheetLength}
 use Rattle.store.specs.Granted.{granted, grantedBelow}
 use Rattle.store.specs.Delivery.{part, parts, sheetBytes, deliveryLength, deliveryOf, grantedSheets}
 use Rattle.store.specs.Ready.{Ready}
@@ -132,23 +132,23 @@ module _ (grants : List ℕ) (m : ℕ) where
       }
 
 -- a part, whatever follows, is two words and what follows them
-part-headed : (b : List ℕ) (s : ℕ) (rest : List ℕ) → part b s ++ rest ≡ bytes32 s ++ (bytes32 (size b s) ++ (sheetBytes b s ++ rest))
+part-headed : (b : List ℕ) (s : ℕ) (rest : List ℕ) → part b s ++ rest ≡ bytes32 s ++ (bytes32 (sheetLength b s) ++ (sheetBytes b s ++ rest))
 unfolding part
 part-headed b s rest = simp append-assoc
 
 -- the reader finds the numbers that were written, whatever follows
-parts-numbers : (b ss rest : List ℕ) → ((i : ℕ) → i < length ss → offset b (getD ss i 0) + size b (getD ss i 0) ≤ length b)
+parts-numbers : (b ss rest : List ℕ) → ((i : ℕ) → i < length ss → offset b (getD ss i 0) + sheetLength b (getD ss i 0) ≤ length b)
     → numbers (parts b ss ++ rest) (length ss) ≡ ss
 unfolding numbers parts
 parts-numbers b [] rest h = refl
 parts-numbers b (s ∷ ss) rest h =
     let d : List ℕ = (part b s ++ parts b ss) ++ rest in
     let split : d ≡ part b s ++ (parts b ss ++ rest) = append-assoc (part b s) (parts b ss) rest in
-    let form : d ≡ bytes32 s ++ (bytes32 (size b s) ++ (sheetBytes b s ++ (parts b ss ++ rest))) = split ∙ part-headed b s (parts b ss ++ rest) in
-    let number : le32 d 0 ≡ s = ap (λ (l : List ℕ). le32 l 0) form ∙ read-first s (size b s) _ in
-    let long : le32 d 4 ≡ size b s = ap (λ (l : List ℕ). le32 l 4) form ∙ read-second s (size b s) _ in
+    let form : d ≡ bytes32 s ++ (bytes32 (sheetLength b s) ++ (sheetBytes b s ++ (parts b ss ++ rest))) = split ∙ part-headed b s (parts b ss ++ rest) in
+    let number : le32 d 0 ≡ s = ap (λ (l : List ℕ). le32 l 0) form ∙ read-first s (sheetLength b s) _ in
+    let long : le32 d 4 ≡ sheetLength b s = ap (λ (l : List ℕ). le32 l 4) form ∙ read-second s (sheetLength b s) _ in
     let next : drop (8 + le32 d 4) d ≡ parts b ss ++ rest =
-    ap₂ (λ (k : ℕ) (l : List ℕ). drop (8 + k) l) long split ∙ drop-at (part b s) (parts b ss ++ rest) (8 + size b s) (length-part b s (h 0 (omega arith))) in
+    ap₂ (λ (k : ℕ) (l : List ℕ). drop (8 + k) l) long split ∙ drop-at (part b s) (parts b ss ++ rest) (8 + sheetLength b s) (length-part b s (h 0 (omega arith))) in
     ap₂ (λ (x : ℕ) (l : List ℕ). x ∷ l) number (ap (λ (l : List ℕ). numbers l (length ss)) next ∙ parts-numbers b ss rest (λ i l. h (suc i) (omega arith)))
 
 -- a delivery's first two words, whatever follows
@@ -167,7 +167,7 @@ module _ (b ss rest : List ℕ) where
 
 module _ (grants : List ℕ) (m : ℕ) (b rest : List ℕ) (ready : Ready grants m b) where
   -- the bytes of a granted sheet lie in the store
-  inside : (i : ℕ) → i < length (grantedSheets grants m) → offset b (getD (grantedSheets grants m) i 0) + size b (getD (grantedSheets grants m) i 0) ≤ length b
+  inside : (i : ℕ) → i < length (grantedSheets grants m) → offset b (getD (grantedSheets grants m) i 0) + sheetLength b (getD (grantedSheets grants m) i 0) ≤ length b
   inside i h =
       let so = granted-exactly grants m .only i h in
       let entry = sound b (getD (grantedSheets grants m) i 0) (fault-free grants m b _ (ready .sound) (so .0) (so .1)) in

@@ -12,17 +12,17 @@ use lib.Seq.{length-take-le}
 use Rattle.base.proofs.First.{either}
 use Rattle.wire.specs.Word.{bytes32}
 use Rattle.wire.proofs.Word.{length-bytes32}
-use Rattle.store.specs.Entry.{offset, size}
+use Rattle.store.specs.Entry.{offset, sheetLength}
 use Rattle.store.specs.Granted.{granted, grantedBelow}
 use Rattle.store.specs.Delivery.{sheetBytes, part, parts}
 use Rattle.store.proofs.Granted.{below-in, below-out}
 
 -- a part is two words and the sheet's bytes
-pub length-part : (b : List ℕ) (s : ℕ) → offset b s + size b s ≤ length b → length (part b s) ≡ 8 + size b s
+pub length-part : (b : List ℕ) (s : ℕ) → offset b s + sheetLength b s ≤ length b → length (part b s) ≡ 8 + sheetLength b s
 unfolding part sheetBytes
 length-part b s h =
-    let room : size b s ≤ length (drop (offset b s) b) = simp length-drop (omega arith) in
-    simp (length-append, length-bytes32, length-take-le (size b s) (drop (offset b s) b) room) (omega arith)
+    let room : sheetLength b s ≤ length (drop (offset b s) b) = simp length-drop (omega arith) in
+    simp (length-append, length-bytes32, length-take-le (sheetLength b s) (drop (offset b s) b) room) (omega arith)
 
 pub parts-append : (b ss ts : List ℕ) → parts b (ss ++ ts) ≡ parts b ss ++ parts b ts
 unfolding parts

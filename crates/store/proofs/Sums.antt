@@ -8,7 +8,7 @@ use borrow.Author.Count.{below-more}
 use lib.ListN.{length, length-append}
 use Rattle.base.proofs.First.{None, first-none, first-is}
 use Rattle.rules.specs.Ranges.{sheets, storeBytes}
-use Rattle.store.specs.Entry.{size, entryFault}
+use Rattle.store.specs.Entry.{sheetLength, entryFault}
 use Rattle.store.specs.Granted.{granted, grantedBelow}
 use Rattle.store.specs.Fault.{faulty, firstFaulty}
 use Rattle.store.specs.Delivery.{part, parts, deliveryLength}
@@ -42,7 +42,7 @@ module _ (grants : List ℕ) (m : ℕ) (b : List ℕ) where
           short = omega (arith, so .short);
         }
 
-    pub sums-in : Good b → granted grants m s ≡ true → entryFault b s ≡ 0 → Sums (s + 1) (count + 1) (total + 8 + size b s)
+    pub sums-in : Good b → granted grants m s ≡ true → entryFault b s ≡ 0 → Sums (s + 1) (count + 1) (total + 8 + sheetLength b s)
     sums-in good g e =
         let entry = sound b s e in
         let long = length-part b s (omega (arith, entry .within, good .total)) in

@@ -6,7 +6,7 @@ use Prim.Native.Nat.{ℕ, _<_}
 use lib.ListN.{length, take}
 use Rattle.rules.specs.Ranges.{sheets}
 use Rattle.store.specs.Store.{sheetCount}
-use Rattle.store.specs.Entry.{offset, size, entryFault}
+use Rattle.store.specs.Entry.{offset, sheetLength, entryFault}
 use Rattle.store.specs.Granted.{granted}
 use Rattle.store.specs.Delivery.{sheetBytes}
 
@@ -16,5 +16,5 @@ pub record Agree (grants grants′ : List ℕ) (m : ℕ) (b b′ : List ℕ) : T
   pub long : length b ≡ length b′
   pub header : take 8 b ≡ take 8 b′
   pub offsets : (s : ℕ) → s < sheets → granted grants m s ≡ true → s < sheetCount b → offset b s ≡ offset b′ s
-  pub sizes : (s : ℕ) → s < sheets → granted grants m s ≡ true → s < sheetCount b → size b s ≡ size b′ s
+  pub lengths : (s : ℕ) → s < sheets → granted grants m s ≡ true → s < sheetCount b → sheetLength b s ≡ sheetLength b′ s
   pub bytes : (s : ℕ) → s < sheets → granted grants m s ≡ true → entryFault b s ≡ 0 → sheetBytes b s ≡ sheetBytes b′ s

@@ -4,16 +4,16 @@ use mathlib.Core.List.{List, [], _∷_, _++_}
 use lib.ListN.{length, take, drop}
 use Rattle.rules.specs.Ranges.{sheets}
 use Rattle.wire.specs.Word.{bytes32}
-use Rattle.store.specs.Entry.{offset, size}
+use Rattle.store.specs.Entry.{offset, sheetLength}
 use Rattle.store.specs.Granted.{grantedBelow}
 
 -- the store's bytes of sheet s
 unfoldable pub sheetBytes : List ℕ → ℕ → List ℕ
-sheetBytes b s = take (size b s) (drop (offset b s) b)
+sheetBytes b s = take (sheetLength b s) (drop (offset b s) b)
 
 -- For each granted sheet: number, length, bytes.
 unfoldable pub part : List ℕ → ℕ → List ℕ
-part b s = bytes32 s ++ (bytes32 (size b s) ++ sheetBytes b s)
+part b s = bytes32 s ++ (bytes32 (sheetLength b s) ++ sheetBytes b s)
 
 unfoldable pub parts : List ℕ → List ℕ → List ℕ
 parts b [] = []

@@ -1,8 +1,7 @@
 // The look at the granted sheets before a byte is written: the first faulty one, and the sums up to it.
 ghost use mathlib.Core.Path.{_≡_};
 ghost use mathlib.Core.Bool.{true};
-ghost use Prim.Native.Nat.{_/_, _%_, _^_, _<_};
-ghost use lib.Dec.{eqb};
+ghost use Prim.Native.Nat.{_^_, _<_};
 ghost use Rattle.rules.specs.Ranges.{models};
 ghost use Rattle.store.specs.Store.{goodStore};
 ghost use Rattle.store.specs.Checked.{checked};
@@ -16,14 +15,7 @@ pub struct Checked {
     pub total: u64,
 }
 
-// Bit `model` of a sheet's grant word.
-pub fn is_granted(word: u64, model: u32) -> bool
-    requires { ⌜ model < models ⌝ }
-    ensures { λ r. ⌜ r ≡ eqb (word / 2 ^ model % 2) 1 ⌝ }
-{
-    (word >> model) & 1 == 1
-}
-
+// Goes through the granted sheets by rising number, up to the first faulty one.
 pub fn check(grants: &[u64; 256], model: u32, store: &[u8]) -> Checked
     requires { ⌜ (model < models) × (goodStore (now store) ≡ true) ⌝ }
     ensures { λ r. ⌜ (r ≡ checked (now (grants .entry)) model (now (store .entry))) × (r .total < 2 ^ 32) ⌝ }
@@ -31,7 +23,7 @@ pub fn check(grants: &[u64; 256], model: u32, store: &[u8]) -> Checked
     let mut count: u32 = 0;
     let mut total: u64 = 8;
     for sheet in 0..rules::SHEETS {
-        if !is_granted(grants[sheet as usize], model) {
+        if !super::grant::is_granted(grants, model, sheet) {
             continue;
         }
         if super::table::entry_fault(store, sheet) != 0 {
@@ -42,7 +34,7 @@ pub fn check(grants: &[u64; 256], model: u32, store: &[u8]) -> Checked
             };
         }
         count += 1;
-        total = total + 8 + super::table::size_of(store, sheet);
+        total = total + 8 + super::table::length_of(store, sheet);
     }
     Checked {
         stop: rules::SHEETS,

@@ -1,5 +1,6 @@
 // Deliveries: the granted sheets of a store, written to a lent buffer.
 mod check;
+mod grant;
 mod table;
 mod write;
 

@@ -4,7 +4,7 @@ ghost use mathlib.Core.Bool.{true};
 ghost use Prim.Native.Nat.{_+_, _*_, _≤_, _<_};
 ghost use lib.ListN.{length};
 ghost use Rattle.store.specs.Store.{goodStore, sheetCount};
-ghost use Rattle.store.specs.Entry.{offset, size, entryFault};
+ghost use Rattle.store.specs.Entry.{offset, sheetLength, entryFault};
 
 pub fn good_store(store: &[u8]) -> bool
     ensures { λ r. ⌜ r ≡ goodStore (now (store .entry)) ⌝ }
@@ -35,9 +35,9 @@ pub fn offset_of(store: &[u8], sheet: u32) -> u64
     wire::read32(store, 8 + 8 * (sheet as usize)) as u64
 }
 
-pub fn size_of(store: &[u8], sheet: u32) -> u64
+pub fn length_of(store: &[u8], sheet: u32) -> u64
     requires { ⌜ 16 + 8 * sheet ≤ length (now store) ⌝ }
-    ensures { λ r. ⌜ (r ≡ size (now (store .entry)) sheet) × (r < 4294967296) ⌝ }
+    ensures { λ r. ⌜ (r ≡ sheetLength (now (store .entry)) sheet) × (r < 4294967296) ⌝ }
 {
     wire::read32(store, 12 + 8 * (sheet as usize)) as u64
 }
@@ -52,12 +52,12 @@ pub fn entry_fault(store: &[u8], sheet: u32) -> u32
         return rules::NOT_IN_STORE;
     }
     let offset = offset_of(store, sheet);
-    let size = size_of(store, sheet);
+    let length = length_of(store, sheet);
     let start = 8 + 8 * (n as u64);
     if offset < start {
         return rules::BAD_ENTRY;
     }
-    if (store.len() as u64) < offset + size {
+    if (store.len() as u64) < offset + length {
         return rules::BAD_ENTRY;
     }
     0

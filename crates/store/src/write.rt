@@ -4,7 +4,7 @@ ghost use mathlib.Core.List.{_++_};
 ghost use Prim.Native.Nat.{_+_, _*_, _≤_};
 ghost use lib.ListN.{length, drop};
 ghost use Rattle.wire.specs.Put.{put};
-ghost use Rattle.store.specs.Entry.{offset, size};
+ghost use Rattle.store.specs.Entry.{offset, sheetLength};
 ghost use Rattle.store.specs.Ready.{Ready};
 ghost use Rattle.store.specs.Delivery.{part, parts, grantedSheets, deliveryLength, deliveryOf};
 
@@ -20,16 +20,16 @@ fn copy(from: &[u8], to: &mut [u8])
 
 // Writes a sheet's number, length and bytes from `at` on, and answers where the next part goes.
 fn write_part(store: &[u8], sheet: u32, out: &mut [u8], at: usize) -> usize
-    requires { ⌜ (16 + 8 * sheet ≤ length (now store)) × (offset (now store) sheet + size (now store) sheet ≤ length (now store)) × (at + (8 + size (now store) sheet) ≤ length (now out)) ⌝ }
+    requires { ⌜ (16 + 8 * sheet ≤ length (now store)) × (offset (now store) sheet + sheetLength (now store) sheet ≤ length (now store)) × (at + (8 + sheetLength (now store) sheet) ≤ length (now out)) ⌝ }
     ensures { λ r. ⌜ (r ≡ at + length (part (now (store .entry)) sheet)) × (now (out .exit) ≡ put (now (out .entry)) at (part (now (store .entry)) sheet)) ⌝ }
 {
     let from = super::table::offset_of(store, sheet) as usize;
-    let size = super::table::size_of(store, sheet);
-    let end = from + size as usize;
+    let length = super::table::length_of(store, sheet);
+    let end = from + length as usize;
     wire::write32(&mut *out, at, sheet);
-    wire::write32(&mut *out, at + 4, size as u32);
+    wire::write32(&mut *out, at + 4, length as u32);
     let to = at + 8;
-    let next = to + size as usize;
+    let next = to + length as usize;
     copy(&store[from..end], &mut out[to..next]);
     next
 }
@@ -41,7 +41,7 @@ fn write_parts(grants: &[u64; 256], model: u32, store: &[u8], out: &mut [u8])
 {
     let mut at: usize = 8;
     for sheet in 0..rules::SHEETS {
-        if !super::check::is_granted(grants[sheet as usize], model) {
+        if !super::grant::is_granted(grants, model, sheet) {
             continue;
         }
         at = write_part(store, sheet, &mut *out, at);

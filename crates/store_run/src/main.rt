@@ -92,38 +92,9 @@ fn wrapping_entries() {
 fn shared_bytes() {
     let mut grants = make::granted(0, 1);
     grants[1] = 1;
-    let mut store = [
-        1u8,
-        2,
-        3,
-        4,
-        5,
-        6,
-        7,
-        8,
-        9,
-        10,
-        11,
-        12,
-        13,
-        14,
-        15,
-        16,
-        17,
-        18,
-        19,
-        20,
-        21,
-        22,
-        23,
-        24,
-        25,
-        26,
-        27,
-        28,
-        29,
-        30,
-    ];
+    let mut store = [0u8; 64];
+    make::word(&mut store, 24, 0x04030201);
+    make::word(&mut store, 28, 0x0605);
     make::header(&mut store, 30, 2);
     make::entry(&mut store, 0, 24, 4);
     make::entry(&mut store, 1, 26, 4);

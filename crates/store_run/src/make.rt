@@ -17,7 +17,7 @@ pub fn space() -> [u8; 1048577]
 }
 
 // The word at a place, where the store has room for it.
-fn word(store: &mut [u8], at: usize, x: u32) {
+pub fn word(store: &mut [u8], at: usize, x: u32) {
     if store.len() < 4 {
         return;
     }

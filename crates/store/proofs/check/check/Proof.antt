@@ -25,19 +25,17 @@ abbrev μ-loop : tie.MeasureT-loop
 μ-loop grants model store count₀ total₀ sheet₀ count total sheet = 256 - sheet
 
 -- what the test of a turn says
-ungranted : (c : tie.Then1 Inv-loop μ-loop) → granted (c .before .before .before .before .before .before .args .grants .now) (c .before .before .before .before .before .before .args .model) (c .before .before .before .before .loop .sheet) ≡ false
-unfolding granted
+ungranted : (c : tie.Then1 Inv-loop μ-loop) → granted (c .before .before .before .before .before .args .grants .now) (c .before .before .before .before .before .args .model) (c .before .before .before .loop .sheet) ≡ false
 ungranted c = sym (c .before .is-granted .ensures) ∙ not-true _ (c .if1 .taken)
 
-is-so : (c : tie.Else1 Inv-loop μ-loop) → granted (c .before .before .before .before .before .before .args .grants .now) (c .before .before .before .before .before .before .args .model) (c .before .before .before .before .loop .sheet) ≡ true
-unfolding granted
+is-so : (c : tie.Else1 Inv-loop μ-loop) → granted (c .before .before .before .before .before .args .grants .now) (c .before .before .before .before .before .args .model) (c .before .before .before .loop .sheet) ≡ true
 is-so c = sym (c .before .is-granted .ensures) ∙ not-false _ (c .if1 .left)
 
 store-good : (c : tie.Start Inv-loop μ-loop) → Good (c .args .store .now)
 store-good c = good (c .args .store .now) (c .pre .1)
 
 -- an entry without fault
-entry-none : (c : tie.Else2 Inv-loop μ-loop) → entryFault (c .before .before .before .before .before .before .before .before .args .store .now) (c .before .before .before .before .before .before .loop .sheet) ≡ 0
+entry-none : (c : tie.Else2 Inv-loop μ-loop) → entryFault (c .before .before .before .before .before .before .before .args .store .now) (c .before .before .before .before .before .loop .sheet) ≡ 0
 entry-none c = sym (c .before .entry-fault .ensures) ∙ c .if2 .left
 
 -- where the look ends, the sums are the answer
@@ -49,15 +47,6 @@ stopped grants m b s count total so e =
 loop-holds : tie.Need-loop-holds Inv-loop μ-loop
 loop-holds c = (search needs, sums-none _ _ _)
 
-cast-is-granted : tie.Need-cast-is-granted Inv-loop μ-loop
-cast-is-granted c = search needs
-
-mul-is-granted : tie.Need-mul-is-granted Inv-loop μ-loop
-mul-is-granted c = search needs
-
-element-copy-out-is-granted : tie.Need-element-copy-out-is-granted Inv-loop μ-loop
-element-copy-out-is-granted c = search needs
-
 is-granted-requires : tie.Need-is-granted-requires Inv-loop μ-loop
 is-granted-requires c κs = search needs
 
@@ -68,16 +57,16 @@ loop-less : tie.Need-loop-less Inv-loop μ-loop
 loop-less c = search needs
 
 loop-again : tie.Need-loop-again Inv-loop μ-loop
-loop-again c = (search needs, sums-out _ _ _ _ _ _ (c .before .before .before .before .loop .inv .1) (ungranted c))
+loop-again c = (search needs, sums-out _ _ _ _ _ _ (c .before .before .before .loop .inv .1) (ungranted c))
 
 entry-fault-requires : tie.Need-entry-fault-requires Inv-loop μ-loop
 entry-fault-requires c κs = search needs
 
 returns : tie.Need-returns Inv-loop μ-loop
 returns c =
-    let at = c .before .before .before .before .before .before in
+    let at = c .before .before .before .before .before in
     let so = at .loop .inv .1 in
-    let e = sums-stop _ _ _ _ _ _ so (c .before .before .before .before .before .loop-test .taken) (is-so (c .before .before)) (λ z. c .if2 .taken (c .before .entry-fault .ensures ∙ z)) in
+    let e = sums-stop _ _ _ _ _ _ so (c .before .before .before .before .loop-test .taken) (is-so (c .before .before)) (λ z. c .if2 .taken (c .before .entry-fault .ensures ∙ z)) in
     (stopped _ _ _ _ _ _ so e, omega (arith, so .short))
 
 add-count : tie.Need-add-count Inv-loop μ-loop
@@ -86,9 +75,9 @@ add-count c = search needs
 add-total : tie.Need-add-total Inv-loop μ-loop
 add-total c = search needs
 
-size-of-requires : tie.Need-size-of-requires Inv-loop μ-loop
-size-of-requires c κs =
-    let g = store-good (c .before .before .before .before .before .before .before .before) in
+length-of-requires : tie.Need-length-of-requires Inv-loop μ-loop
+length-of-requires c κs =
+    let g = store-good (c .before .before .before .before .before .before .before) in
     let entry = sound _ _ (entry-none c) in
     omega (arith, entry .inside, g .table)
 
@@ -103,10 +92,10 @@ loop-less-2 c = search needs
 
 loop-again-2 : tie.Need-loop-again-2 Inv-loop μ-loop
 loop-again-2 c =
-    let at = c .before .before .before .before .before .before .before in
+    let at = c .before .before .before .before .before .before in
     let start = at .before .before in (
       search needs,
-      rw (c .size-of .ensures .0) (sums-in _ _ _ _ _ _ (at .loop .inv .1) (store-good start) (is-so (c .before .before .before)) (entry-none (c .before))),
+      rw (c .length-of .ensures .0) (sums-in _ _ _ _ _ _ (at .loop .inv .1) (store-good start) (is-so (c .before .before .before)) (entry-none (c .before))),
     )
 
 returns-2 : tie.Need-returns-2 Inv-loop μ-loop
@@ -123,9 +112,6 @@ check-spec =
     Inv-loop
     μ-loop
     loop-holds
-    cast-is-granted
-    mul-is-granted
-    element-copy-out-is-granted
     is-granted-requires
     add-sheet
     loop-less
@@ -134,7 +120,7 @@ check-spec =
     returns
     add-count
     add-total
-    size-of-requires
+    length-of-requires
     add-total-2
     add-sheet-2
     loop-less-2

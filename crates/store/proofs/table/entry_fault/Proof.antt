@@ -20,8 +20,8 @@ returns c = sym (fault-missing _ _ (omega arith))
 offset-of-requires : tie.Need-offset-of-requires
 offset-of-requires c κs = let g = like (c .before .before .before) in omega arith
 
-size-of-requires : tie.Need-size-of-requires
-size-of-requires c κs = let g = like (c .before .before .before .before) in omega arith
+length-of-requires : tie.Need-length-of-requires
+length-of-requires c κs = let g = like (c .before .before .before .before) in omega arith
 
 cast-start : tie.Need-cast-start
 cast-start c = search needs
@@ -55,7 +55,7 @@ entry-fault-spec =
     sheet-count-requires
     returns
     offset-of-requires
-    size-of-requires
+    length-of-requires
     cast-start
     mul-start
     add-start

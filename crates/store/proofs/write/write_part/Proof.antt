@@ -9,7 +9,7 @@ use lib.Seq.{length-take-le}
 use Rattle.wire.specs.Word.{bytes32}
 use Rattle.wire.specs.Put.{put, put32}
 use Rattle.wire.proofs.Put.{put-lent}
-use Rattle.store.specs.Entry.{offset, size}
+use Rattle.store.specs.Entry.{offset, sheetLength}
 use Rattle.store.specs.Delivery.{sheetBytes, part}
 use Rattle.store.proofs.Head.{put-headed}
 use Rattle.store.proofs.Parts.{length-part}
@@ -18,16 +18,16 @@ use Rattle.store.proofs.write.write_part.Statement.{statement}
 use Rattle.store.proofs.write.write_part.Tie as tie
 
 -- o1 and o2 are the buffer after the words, bytes what was copied
-part-put : (b out o1 o2 bytes : List ℕ) (s at from z : ℕ) → from ≡ offset b s → z ≡ size b s
-    → offset b s + size b s ≤ length b → at + (8 + size b s) ≤ length out
+part-put : (b out o1 o2 bytes : List ℕ) (s at from z : ℕ) → from ≡ offset b s → z ≡ sheetLength b s
+    → offset b s + sheetLength b s ≤ length b → at + (8 + sheetLength b s) ≤ length out
     → o1 ≡ put32 out at s → o2 ≡ put32 o1 (at + 4) z → bytes ≡ take (from + z - from) (drop from b)
     → putMid (at + 8) (at + 8 + z - (at + 8)) o2 bytes ≡ put out at (part b s)
 unfolding part sheetBytes
 part-put b out o1 o2 bytes s at from z ef ez inside room e1 e2 eb =
-    let count : from + z - from ≡ size b s = omega arith in
+    let count : from + z - from ≡ sheetLength b s = omega arith in
     let same : bytes ≡ sheetBytes b s = eb ∙ ap₂ (λ (k n : ℕ). take k (drop n b)) count ef in
-    let left : size b s ≤ length (drop (offset b s) b) = simp length-drop (omega arith) in
-    let long : length bytes ≡ size b s = ap length same ∙ length-take-le (size b s) (drop (offset b s) b) left in
+    let left : sheetLength b s ≤ length (drop (offset b s) b) = simp length-drop (omega arith) in
+    let long : length bytes ≡ sheetLength b s = ap length same ∙ length-take-le (sheetLength b s) (drop (offset b s) b) left in
     put-lent o2 bytes (at + 8) (at + 8 + z) (omega arith)
     ∙ ap (λ (o : List ℕ). put o (at + 8) bytes) (e2 ∙ ap (λ (o : List ℕ). put32 o (at + 4) z) e1)
     ∙ put-headed out at s z bytes (omega arith)
@@ -36,8 +36,8 @@ part-put b out o1 o2 bytes s at from z ef ez inside room e1 e2 eb =
 offset-of-requires : tie.Need-offset-of-requires
 offset-of-requires c κs = search needs
 
-size-of-requires : tie.Need-size-of-requires
-size-of-requires c κs = search needs
+length-of-requires : tie.Need-length-of-requires
+length-of-requires c κs = search needs
 
 add-end : tie.Need-add-end
 add-end c = search needs
@@ -88,14 +88,14 @@ returns : tie.Need-returns
 returns c =
     let start = c .before .before .before .before .before .before .before .before .before .before .before .before .before .before .before .before .before in
     let a = start .args in
-    let offset = c .before .before .before .before .before .before .before .before .before .before .before .before .before .before .offset-of in
-    let size = c .before .before .before .before .before .before .before .before .before .before .before .before .before .size-of in
-    let number = c .before .before .before .before .before .before .before .before .before .before .before .write32 in
-    let length = c .before .before .before .before .before .before .before .write322 in
-    let bytes = c .before .before .copy in
+    let from = c .before .before .before .before .before .before .before .before .before .before .before .before .before .before .offset-of in
+    let long = c .before .before .before .before .before .before .before .before .before .before .before .before .before .length-of in
+    let first = c .before .before .before .before .before .before .before .before .before .before .before .write32 in
+    let second = c .before .before .before .before .before .before .before .write322 in
+    let copied = c .before .before .copy in
     let inside = start .pre .1 in (
-      omega (arith, size .ensures .0, length-part (a .store .now) (a .sheet) inside),
-      part-put _ _ _ _ _ _ _ _ _ (offset .ensures .0) (size .ensures .0) inside (start .pre .2) (number .ensures) (length .ensures) (bytes .ensures),
+      omega (arith, long .ensures .0, length-part (a .store .now) (a .sheet) inside),
+      part-put _ _ _ _ _ _ _ _ _ (from .ensures .0) (long .ensures .0) inside (start .pre .2) (first .ensures) (second .ensures) (copied .ensures),
     )
 
 pub write-part-spec : {M : Type 1} → statement M
@@ -103,7 +103,7 @@ write-part-spec =
     tie.close
     (tie.spec
     offset-of-requires
-    size-of-requires
+    length-of-requires
     add-end
     write32-requires
     add-write32

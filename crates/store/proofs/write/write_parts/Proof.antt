@@ -7,7 +7,7 @@ use native.Mathlib.Omega.{arith}
 use borrow.Author.Needs.{needs}
 use borrow.Author.Tests.{not-true, not-false}
 use lib.ListN.{length}
-use Rattle.store.specs.Entry.{offset, size}
+use Rattle.store.specs.Entry.{offset, sheetLength}
 use Rattle.store.specs.Granted.{granted}
 use Rattle.store.proofs.Store.{good}
 use Rattle.store.proofs.Entry.{sound}
@@ -24,12 +24,10 @@ abbrev μ-loop : tie.MeasureT-loop
 μ-loop grants model store out₀ at₀ sheet₀ out at sheet = 256 - sheet
 
 -- what the test of a turn says
-ungranted : (c : tie.Then1 Inv-loop μ-loop) → granted (c .before .before .before .before .before .before .before .args .grants .now) (c .before .before .before .before .before .before .before .args .model) (c .before .before .before .before .loop .sheet) ≡ false
-unfolding granted
+ungranted : (c : tie.Then1 Inv-loop μ-loop) → granted (c .before .before .before .before .before .before .args .grants .now) (c .before .before .before .before .before .before .args .model) (c .before .before .before .loop .sheet) ≡ false
 ungranted c = sym (c .before .is-granted .ensures) ∙ not-true _ (c .if1 .taken)
 
-is-so : (c : tie.Else1 Inv-loop μ-loop) → granted (c .before .before .before .before .before .before .before .args .grants .now) (c .before .before .before .before .before .before .before .args .model) (c .before .before .before .before .loop .sheet) ≡ true
-unfolding granted
+is-so : (c : tie.Else1 Inv-loop μ-loop) → granted (c .before .before .before .before .before .before .args .grants .now) (c .before .before .before .before .before .before .args .model) (c .before .before .before .loop .sheet) ≡ true
 is-so c = sym (c .before .is-granted .ensures) ∙ not-false _ (c .if1 .left)
 
 -- the buffer keeps its length
@@ -38,15 +36,6 @@ long c = length-filled _ _ _ _ (c .before .before .before .pre .1) _ _ _ (c .loo
 
 loop-holds : tie.Need-loop-holds Inv-loop μ-loop
 loop-holds c = (search needs, filled-none _ _ _ _)
-
-cast-is-granted : tie.Need-cast-is-granted Inv-loop μ-loop
-cast-is-granted c = search needs
-
-mul-is-granted : tie.Need-mul-is-granted Inv-loop μ-loop
-mul-is-granted c = search needs
-
-element-copy-out-is-granted : tie.Need-element-copy-out-is-granted Inv-loop μ-loop
-element-copy-out-is-granted c = search needs
 
 is-granted-requires : tie.Need-is-granted-requires Inv-loop μ-loop
 is-granted-requires c κs = search needs
@@ -58,18 +47,18 @@ loop-less : tie.Need-loop-less Inv-loop μ-loop
 loop-less c = search needs
 
 loop-again : tie.Need-loop-again Inv-loop μ-loop
-loop-again c = (search needs, filled-out _ _ _ _ _ _ _ (c .before .before .before .before .loop .inv .1) (ungranted c))
+loop-again c = (search needs, filled-out _ _ _ _ _ _ _ (c .before .before .before .loop .inv .1) (ungranted c))
 
 write-part-requires : tie.Need-write-part-requires Inv-loop μ-loop
 write-part-requires c κs =
-    let at = c .before .before .before .before .before in
+    let at = c .before .before .before .before in
     let start = at .before .before .before in
     let store = start .args .store .now in
     let sheet = at .loop .sheet in
-    let turn = c .before .before .before .before .loop-test .taken in
+    let turn = c .before .before .before .loop-test .taken in
     let g = good store (start .pre .0 .taken) in
     let entry = sound store sheet (fault-free _ _ _ _ (start .pre .0 .sound) turn (is-so (c .before))) in
-    let inside : offset store sheet + size store sheet ≤ length store = omega (arith, entry .within, g .total) in
+    let inside : offset store sheet + sheetLength store sheet ≤ length store = omega (arith, entry .within, g .total) in
     let room = part-fits _ _ _ _ (start .pre .1) _ _ _ turn (at .loop .inv .1) (is-so (c .before)) in
     (omega (arith, entry .inside, g .table), inside, omega (arith, room, length-part store sheet inside, long at))
 
@@ -81,7 +70,7 @@ loop-less-2 c = search needs
 
 loop-again-2 : tie.Need-loop-again-2 Inv-loop μ-loop
 loop-again-2 c =
-    let at = c .before .before .before .before .before .before .before .before in
+    let at = c .before .before .before .before .before .before .before in
     let start = at .before .before .before in
     let wrote = c .before .before .write-part .ensures in
     (search needs, filled-in _ _ _ _ (start .pre .1) _ _ _ _ _ (at .loop .inv .0) (at .loop .inv .1) (is-so (c .before .before .before .before)) (wrote .0) (wrote .1))
@@ -101,9 +90,6 @@ write-parts-spec =
     Inv-loop
     μ-loop
     loop-holds
-    cast-is-granted
-    mul-is-granted
-    element-copy-out-is-granted
     is-granted-requires
     add-sheet
     loop-less
