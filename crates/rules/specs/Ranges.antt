@@ -18,3 +18,7 @@ ticks = 1000000
 -- the most events in a strip, and records in a book
 abbrev pub events : ℕ
 events = 4096
+
+-- the most bytes in a store
+abbrev pub storeBytes : ℕ
+storeBytes = 1048576

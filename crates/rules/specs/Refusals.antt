@@ -41,3 +41,16 @@ badModel = 13
 
 abbrev pub badSheet : ℕ
 badSheet = 14
+
+-- a delivery: 31 to 34
+abbrev pub badStore : ℕ
+badStore = 31
+
+abbrev pub notInStore : ℕ
+notInStore = 32
+
+abbrev pub badEntry : ℕ
+badEntry = 33
+
+abbrev pub deliveryTooLong : ℕ
+deliveryTooLong = 34

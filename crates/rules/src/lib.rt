@@ -10,6 +10,8 @@ pub const GROUPS: u32 = 16;
 pub const TICKS: u32 = 1000000;
 // The most events in a strip, and records in a book.
 pub const EVENTS: usize = 4096;
+// The most bytes in a store.
+pub const STORE_BYTES: usize = 1048576;
 
 // Kinds: strict and liberal join, leave, add, remove.
 pub const SJ: u32 = 0;
@@ -57,3 +59,9 @@ pub const LONG_SHEET: u32 = 12;
 pub const BAD_MODEL: u32 = 13;
 
 pub const BAD_SHEET: u32 = 14;
+
+// Refusals of a delivery.
+pub const BAD_STORE: u32 = 31;
+pub const NOT_IN_STORE: u32 = 32;
+pub const BAD_ENTRY: u32 = 33;
+pub const DELIVERY_TOO_LONG: u32 = 34;
