@@ -62,6 +62,9 @@ pub const BAD_SHEET: u32 = 14;
 
 // Refusals of a delivery.
 pub const BAD_STORE: u32 = 31;
+
 pub const NOT_IN_STORE: u32 = 32;
+
 pub const BAD_ENTRY: u32 = 33;
+
 pub const DELIVERY_TOO_LONG: u32 = 34;
