@@ -5,5 +5,6 @@ pub mod Close
 pub mod Fits
 pub mod Held
 pub mod Lent
+pub mod Quiet
 pub mod Request
 pub mod View
