@@ -1,0 +1,3 @@
+-- Laws of runs: the gate answers by the published formula over the events that it accepted. Gate.antt states them.
+pub mod Keep
+pub mod Sides
