@@ -25,7 +25,7 @@ use Rattle.history.specs.Strips.{carriedBy}
 -- ---- kinds
 
 -- a statement on the kinds has eight cases
-each-kind : (P : ℕ → Type 0) → P SJ → P LJ → P SL → P LL → P SA → P LA → P SR → P LR → (k : ℕ) → k ≤ LR → P k
+pub each-kind : (P : ℕ → Type 0) → P SJ → P LJ → P SL → P LL → P SA → P LA → P SR → P LR → (k : ℕ) → k ≤ LR → P k
 each-kind P a b c d e f g h zero l = a
 each-kind P a b c d e f g h (suc zero) l = b
 each-kind P a b c d e f g h (suc (suc zero)) l = c
@@ -42,11 +42,11 @@ ofSide Model kind = ofModel kind
 ofSide Sheet kind = not (ofModel kind)
 
 -- the side's kinds come or go
-comes : (side : Side) (k : ℕ) → k ≤ LR → enters side k ≡ ofSide side k && entering k
+pub comes : (side : Side) (k : ℕ) → k ≤ LR → enters side k ≡ ofSide side k && entering k
 comes Model = each-kind _ refl refl refl refl refl refl refl refl
 comes Sheet = each-kind _ refl refl refl refl refl refl refl refl
 
-goes : (side : Side) (k : ℕ) → k ≤ LR → leaves side k ≡ ofSide side k && not (entering k)
+pub goes : (side : Side) (k : ℕ) → k ≤ LR → leaves side k ≡ ofSide side k && not (entering k)
 goes Model = each-kind _ refl refl refl refl refl refl refl refl
 goes Sheet = each-kind _ refl refl refl refl refl refl refl refl
 
@@ -54,24 +54,24 @@ goes Sheet = each-kind _ refl refl refl refl refl refl refl refl
 abbrev pub even : ℕ → Bool
 even place = eqb (place % 2) 0
 
-even-suc : (place : ℕ) → even (suc place) ≡ not (even place)
+pub even-suc : (place : ℕ) → even (suc place) ≡ not (even place)
 even-suc place = ⊎-elim
     (λ (t : even place ≡ true). let h : place % 2 ≡ 0 = eqb-true _ _ t in ne-eqb (suc place % 2) 0 (λ e. omega arith) ∙ sym (ap not t))
     (λ (f : even place ≡ false). eq-eqb (suc place % 2) 0 (omega (arith, eqb-false (place % 2) 0 f)) ∙ sym (ap not f))
     (either (even place))
 
 -- whose turn it is at a place, of the side's kinds
-turn-is : (side : Side) (place k : ℕ) → k ≤ LR → ofSide side k ≡ true → turn side place k ≡ cond (even place) (entering k) (not (entering k))
+pub turn-is : (side : Side) (place k : ℕ) → k ≤ LR → ofSide side k ≡ true → turn side place k ≡ cond (even place) (entering k) (not (entering k))
 turn-is side place k h e = simp (comes side k h, goes side k h, e)
 
 -- a kind whose turn it is is one of the side's
-turn-side : (side : Side) (place k : ℕ) → k ≤ LR → turn side place k ≡ true → ofSide side k ≡ true
+pub turn-side : (side : Side) (place k : ℕ) → k ≤ LR → turn side place k ≡ true → ofSide side k ≡ true
 turn-side side place k h e = ⊎-elim
     (λ (t : even place ≡ true). both (ofSide side k) (entering k) (sym (comes side k h) ∙ simp t at e) .0)
     (λ (f : even place ≡ false). both (ofSide side k) (not (entering k)) (sym (goes side k h) ∙ simp f at e) .0)
     (either (even place))
 
-same-turn : (b e : Bool) → (cond b e (not e) ≡ true) ↔ (b ≡ e)
+pub same-turn : (b e : Bool) → (cond b e (not e) ≡ true) ↔ (b ≡ e)
 same-turn true true = (λ x. refl, λ y. refl)
 same-turn true false = (λ x. sym x, λ y. sym y)
 same-turn false true = (λ x. x, λ y. y)
@@ -85,7 +85,7 @@ bySide Model a b = a
 bySide Sheet a b = b
 
 -- the side of a kind decides what its carrier is looked up in
-by-kind : {A : Type 0} (side : Side) (kind : ℕ) (a b : A) → ofSide side kind ≡ true → cond (ofModel kind) a b ≡ bySide side a b
+pub by-kind : {A : Type 0} (side : Side) (kind : ℕ) (a b : A) → ofSide side kind ≡ true → cond (ofModel kind) a b ≡ bySide side a b
 by-kind Model kind a b e = simp e
 by-kind Sheet kind a b e = simp (not-true (ofModel kind) e)
 
@@ -115,14 +115,14 @@ carried-parts side n w e =
 abbrev pub Marks : Group → Side → ℕ → ℕ → Type 0
 Marks g side n o = (k : ℕ) → k ≤ LR → ofSide side k ≡ true → mark g k n ≡ eqb o k
 
-abbrev known : Side → ℕ → Bool
+abbrev pub known : Side → ℕ → Bool
 known side o = bySide side (eqb o SJ || eqb o LJ || eqb o SL || eqb o LL) (eqb o SA || eqb o LA || eqb o SR || eqb o LR)
 
-known-side : (side : Side) (k : ℕ) → k ≤ LR → known side k ≡ ofSide side k
+pub known-side : (side : Side) (k : ℕ) → k ≤ LR → known side k ≡ ofSide side k
 known-side Model = each-kind _ refl refl refl refl refl refl refl refl
 known-side Sheet = each-kind _ refl refl refl refl refl refl refl refl
 
-marked-known : (g : Group) (side : Side) (n o : ℕ) → Marks g side n o → markedOn side g n ≡ known side o
+pub marked-known : (g : Group) (side : Side) (n o : ℕ) → Marks g side n o → markedOn side g n ≡ known side o
 marked-known g Model n o h = simp (h SJ (omega arith) refl, h LJ (omega arith) refl, h SL (omega arith) refl, h LL (omega arith) refl)
 marked-known g Sheet n o h = simp (h SA (omega arith) refl, h LA (omega arith) refl, h SR (omega arith) refl, h LR (omega arith) refl)
 
@@ -139,7 +139,7 @@ stays false false true = refl
 stays false false false = refl
 
 -- who is in after the close: whoever comes, and whoever was in and does not go
-in-closed : (g : Group) → Fits g → (side : Side) (n o : ℕ) → n < range side → Marks g side n o
+pub in-closed : (g : Group) → Fits g → (side : Side) (n o : ℕ) → n < range side → Marks g side n o
     → inOn side (closedGroup g) n ≡ enters side o || (not (leaves side o) && inOn side g n)
 in-closed g z Model n o l h =
     closed-modelIn g z n
