@@ -128,7 +128,7 @@ marked-known g Sheet n o h = simp (h SA (omega arith) refl, h LA (omega arith) r
 
 -- ---- a close
 
-stays : (was gone come : Bool) → was && not gone || come ≡ come || (not gone && was)
+pub stays : (was gone come : Bool) → was && not gone || come ≡ come || (not gone && was)
 stays true true true = refl
 stays true true false = refl
 stays true false true = refl
