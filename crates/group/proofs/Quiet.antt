@@ -19,9 +19,11 @@ use Rattle.bits.proofs.Set.{has-none, words-none}
 use Rattle.group.specs.Carrier.{sheetWords}
 use Rattle.group.specs.Close.{closedMembers, removes, adds, closedAdded, closedLiberal, closedWord, closedWords, closedGroup}
 use Rattle.group.specs.Fits.{Sized, Fits}
+use Rattle.group.specs.Fresh.{freshGroup}
 use Rattle.group.specs.Marks.{mark}
 use Rattle.group.specs.declared.Group.{Group}
 use Rattle.group.proofs.Close.{closed-mark}
+use Rattle.group.proofs.Cases.{each-kind}
 
 -- no carrier has an event in the open tick
 abbrev pub Unmarked : Group → Type 0
@@ -29,6 +31,11 @@ Unmarked g = (k i : ℕ) → k ≤ LR → mark g k i ≡ false
 
 pub closed-unmarked : (g : Group) → Unmarked (closedGroup g)
 closed-unmarked = closed-mark
+
+pub fresh-unmarked : (number : ℕ) → Unmarked (freshGroup number)
+unfolding freshGroup
+fresh-unmarked number k i = each-kind (λ x. mark (freshGroup number) x i ≡ false) (bit-zero i) (bit-zero i) (bit-zero i) (bit-zero i)
+    (has-none sheetWords i) (has-none sheetWords i) (has-none sheetWords i) (has-none sheetWords i) k
 
 -- ---- a word and a set without marks
 

@@ -16,8 +16,8 @@ use Rattle.rules.specs.Ranges.{models, sheets, groups, ticks}
 use Rattle.bits.specs.Bit.{bit}
 use Rattle.bits.proofs.Bit.{bit-zero}
 use Rattle.bits.proofs.Set.{has-none}
-use Rattle.event.specs.Word.{wordOf, tickOf}
-use Rattle.event.proofs.Word.{tick-word}
+use Rattle.event.specs.Word.{wordOf, tickOf, kindOf, numberOf}
+use Rattle.event.proofs.Word.{tick-word, kind-word, number-word}
 use Rattle.formula.specs.Formula.{History}
 use Rattle.formula.specs.Ticks.{inside, liberal, byAdd, byJoin, grant}
 use Rattle.formula.proofs.Move.{inside-start, inside-moves, inside-same, liberal-start, liberal-moves, liberal-same, grant-start, grant-moves, grant-same}
@@ -25,10 +25,9 @@ use Rattle.strip.specs.declared.Side.{Side}
 use Rattle.strip.specs.declared.Side.the-variants.{Model, Sheet}
 use Rattle.strip.specs.Good.{range}
 use Rattle.strip.specs.History.{historyOf}
-use Rattle.strip.proofs.Places.{UpTo}
 use Rattle.strip.proofs.Append.{each-more}
 use Rattle.group.specs.Accepted.{Accepted}
-use Rattle.group.specs.Carrier.{sheetWords}
+use Rattle.group.specs.Carrier.{carriers, sheetWords}
 use Rattle.group.specs.Close.{closedGroup, closeAnswer}
 use Rattle.group.specs.Fits.{Fits}
 use Rattle.group.specs.Fresh.{freshGroup, freshAnswer}
@@ -40,34 +39,37 @@ use Rattle.group.proofs.Accepted.{accepted}
 use Rattle.group.proofs.Carrier.{sheet-number}
 use Rattle.group.proofs.Close.{closed-granted, closed-sheetInByLA, closed-closed, close-cases}
 use Rattle.group.proofs.Fits.{fresh-fits, marked-fits, closed-fits}
-use Rattle.group.proofs.Quiet.{Unmarked}
+use Rattle.group.proofs.Quiet.{fresh-unmarked}
 use Rattle.group.proofs.Request.{request-code, request-refused, request-accepted}
 use Rattle.history.specs.Run.{Call, request, close, Reached, step, run, fresh, reached}
 use Rattle.history.specs.Strips.{keep, stripOf}
 use Rattle.history.proofs.Keep.{strip-later}
-use Rattle.history.proofs.Sides.{each-kind, stays, inOn, in-closed}
-use Rattle.history.proofs.Carried.{Carried, carried-marks, carried-before, fresh-carried, request-carried, close-carried}
+use Rattle.history.proofs.Sides.{stays, inOn, in-closed}
+use Rattle.history.proofs.Carried.{Carried, carried-marks, carried-before, fresh-carried}
+use Rattle.history.proofs.Closes.{close-carried}
+use Rattle.history.proofs.Requests.{request-carried}
 
 -- the history of a carrier up to tick t, of the events ws
 abbrev pub told : Side → ℕ → ℕ → List ℕ → History
 told side n t ws = historyOf (stripOf side n t ws)
 
+-- a word of an event in the ticks up to the open one, t + 1, of a carrier in range
+pub record Ranged (t w : ℕ) : Type 0 where
+  pub from : 1 ≤ tickOf w
+  pub upto : tickOf w ≤ suc t
+  pub number : numberOf w < carriers (kindOf w)
+
 pub record Agreed (g : Group) (t : ℕ) (ws : List ℕ) : Type 0 where
   pub fits : Fits g
   pub tick : g .closed ≡ t
   pub limit : t ≤ ticks
-  pub words : UpTo (suc t) ws
+  pub words : (i : ℕ) → i < length ws → Ranged t (getD ws i 0)
   pub carried : (side : Side) (n : ℕ) → n < range side → Carried g t ws side n
   pub insides : (m : ℕ) → m < models → modelIn g m ≡ inside (told Model m t ws) t
   pub liberals : (s : ℕ) → s < sheets → sheetInByLA g s ≡ liberal (told Sheet s t ws) t
   pub grants : (m s : ℕ) → m < models → s < sheets → granted g m s ≡ grant (told Model m t ws) (told Sheet s t ws) t
 
 -- ---- fresh
-
-fresh-unmarked : (k : ℕ) → Unmarked (freshGroup k)
-unfolding freshGroup
-fresh-unmarked k j i = each-kind (λ x. mark (freshGroup k) x i ≡ false) (bit-zero i) (bit-zero i) (bit-zero i) (bit-zero i)
-    (has-none sheetWords i) (has-none sheetWords i) (has-none sheetWords i) (has-none sheetWords i) j
 
 fresh-out : (k : ℕ) (side : Side) (n : ℕ) → inOn side (freshGroup k) n ≡ false
 unfolding freshGroup
@@ -93,8 +95,18 @@ module _ (g : Group) (t : ℕ) (ws : List ℕ) (a : Agreed g t ws) (kind n : ℕ
   abbrev new : ℕ
   new = wordOf (suc t) kind n
 
+  n-small : n < 512
+  n-small = omega (arith, sheet-number kind n (r .ranged))
+
   new-tick : tickOf new ≡ suc t
-  new-tick = tick-word (suc t) kind n (r .known) (omega (arith, sheet-number kind n (r .ranged)))
+  new-tick = tick-word (suc t) kind n (r .known) n-small
+
+  new-ranged : Ranged t new
+  new-ranged = record {
+    from = omega (arith, new-tick);
+    upto = omega (arith, new-tick);
+    number = rw (number-word (suc t) kind n (r .known) n-small, kind-word (suc t) kind n (r .known) n-small) (r .ranged);
+  }
 
   -- the event is later than the ticks closed
   unseen : (side : Side) (i : ℕ) → stripOf side i t (ws ++ (new ∷ [])) ≡ stripOf side i t ws
@@ -106,7 +118,7 @@ module _ (g : Group) (t : ℕ) (ws : List ℕ) (a : Agreed g t ws) (kind n : ℕ
     fits = marked-fits g kind n (a .fits) (r .ranged);
     tick = a .tick;
     limit = a .limit;
-    words = each-more ws new (λ w. tickOf w ≤ suc t) (a .words) (omega (arith, new-tick));
+    words = each-more ws new (Ranged t) (a .words) new-ranged;
     carried = λ side i l. request-carried g (a .fits) t ws kind n (r .known) (r .ranged) r side i (a .carried side i l);
     insides = λ m l. rw (unseen Model m) (a .insides m l);
     liberals = λ s l. rw (unseen Sheet s) (a .liberals s l);
@@ -174,8 +186,8 @@ module _ (g : Group) (t : ℕ) (ws : List ℕ) (a : Agreed g t ws) where
     fits = closed-fits g (a .fits) (rw (a .tick) h);
     tick = closed-closed g ∙ add-one (g .closed) ∙ ap suc (a .tick);
     limit = h;
-    words = λ i l. omega (arith, a .words i l);
-    carried = λ side n l. close-carried g (a .fits) side n t l ws (a .words) (a .carried side n l);
+    words = λ i l. let w = a .words i l in record { from = w .from; upto = omega (arith, w .upto); number = w .number };
+    carried = λ side n l. close-carried g (a .fits) side n t l ws (λ i h. a .words i h .upto) (a .carried side n l);
     insides = closed-inside;
     liberals = closed-liberal;
     grants = closed-grant;

@@ -20,21 +20,10 @@ use Rattle.group.specs.Fits.{Fits}
 use Rattle.group.specs.Marks.{mark, modelMarked, sheetMarked, carrierMarked, modelIn, sheetIn, carrierIn}
 use Rattle.group.specs.declared.Group.{Group}
 use Rattle.group.proofs.Close.{closed-modelIn, closed-sheetIn}
+use Rattle.group.proofs.Cases.{each-kind}
 use Rattle.history.specs.Strips.{carriedBy}
 
 -- ---- kinds
-
--- a statement on the kinds has eight cases
-pub each-kind : (P : ℕ → Type 0) → P SJ → P LJ → P SL → P LL → P SA → P LA → P SR → P LR → (k : ℕ) → k ≤ LR → P k
-each-kind P a b c d e f g h zero l = a
-each-kind P a b c d e f g h (suc zero) l = b
-each-kind P a b c d e f g h (suc (suc zero)) l = c
-each-kind P a b c d e f g h (suc (suc (suc zero))) l = d
-each-kind P a b c d e f g h (suc (suc (suc (suc zero)))) l = e
-each-kind P a b c d e f g h (suc (suc (suc (suc (suc zero))))) l = f
-each-kind P a b c d e f g h (suc (suc (suc (suc (suc (suc zero)))))) l = g
-each-kind P a b c d e f g h (suc (suc (suc (suc (suc (suc (suc zero))))))) l = h
-each-kind P a b c d e f g h (suc (suc (suc (suc (suc (suc (suc (suc k)))))))) l = absurd (omega arith)
 
 -- the kind is one of the side's
 abbrev pub ofSide : Side → ℕ → Bool
