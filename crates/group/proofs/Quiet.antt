@@ -1,6 +1,6 @@
 -- Closing a tick without accepted requests counts the tick and moves nothing else. Assumes nothing.
-use mathlib.Core.Path.{_≡_, refl, sym, ap, ap₂, _∙_}
-use mathlib.Core.Bool.{Bool, true, false, cond}
+use mathlib.Core.Path.{_≡_, refl, sym, ap₂, _∙_}
+use mathlib.Core.Bool.{Bool, true, false}
 use mathlib.Core.List.{List}
 use Prim.Native.Nat.{ℕ, zero, suc, _+_, _-_, _*_, _/_, _%_, _^_, _≤_, _<_}
 use native.Mathlib.Nat.{mod-eq-of-lt}
@@ -17,7 +17,7 @@ use Rattle.bits.specs.Set.{none, has, either, after}
 use Rattle.bits.proofs.Bit.{bit-zero, bit-ext}
 use Rattle.bits.proofs.Set.{has-none, words-none}
 use Rattle.group.specs.Carrier.{sheetWords}
-use Rattle.group.specs.Close.{closedMembers, removes, adds, closedAdded, closedLiberal, closedWord, closedWords, closedGroup}
+use Rattle.group.specs.Close.{closedMembers, adds, closedAdded, closedLiberal, closedWord, closedWords, closedGroup}
 use Rattle.group.specs.Fits.{Sized, Fits}
 use Rattle.group.specs.Fresh.{freshGroup}
 use Rattle.group.specs.Marks.{mark}

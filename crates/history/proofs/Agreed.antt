@@ -1,17 +1,17 @@
 -- A group beside the events that it accepted: its words fit, its carriers stand beside their strips, and its memberships and grants are the
 -- formula's over these strips. True of a fresh group, and kept by every call. Assumes nothing.
-use mathlib.Core.Path.{_≡_, refl, sym, ap, ap₂, _∙_, subst}
-use mathlib.Core.Bool.{Bool, true, false, not, cond, _&&_, _||_, or-false, or-true, and-comm}
+use mathlib.Core.Path.{_≡_, refl, sym, ap, _∙_, subst}
+use mathlib.Core.Bool.{Bool, true, false, not, _&&_, _||_, or-false, or-true, and-comm}
 use mathlib.Core.Logic.{⊎-elim}
 use mathlib.Core.List.{List, [], _∷_, _++_}
-use Prim.Native.Nat.{ℕ, zero, suc, _+_, _≤_, _<_, _^_}
+use Prim.Native.Nat.{ℕ, suc, _≤_, _<_, _^_}
 use native.Mathlib.Numerals.{add-one}
 use native.Mathlib.Omega.{arith}
 use lib.Dec.{eqb, leb}
 use lib.ListN.{length, getD, getD-replicate}
 use borrow.Author.Tests.{eqb-true, eqb-false, leb-false}
 use Rattle.base.proofs.First.{either}
-use Rattle.rules.specs.Kinds.{SJ, LJ, SL, LL, SA, LA, SR, LR, isAdd, isRemove}
+use Rattle.rules.specs.Kinds.{LJ, SL, SA, LA, SR, LR, isAdd, isRemove}
 use Rattle.rules.specs.Ranges.{models, sheets, groups, ticks}
 use Rattle.bits.specs.Bit.{bit}
 use Rattle.bits.proofs.Bit.{bit-zero}
@@ -28,12 +28,12 @@ use Rattle.strip.specs.History.{historyOf}
 use Rattle.strip.proofs.Append.{each-more}
 use Rattle.group.specs.Accepted.{Accepted}
 use Rattle.group.specs.Carrier.{carriers, sheetWords}
-use Rattle.group.specs.Close.{closedGroup, closeAnswer}
+use Rattle.group.specs.Close.{closedGroup}
 use Rattle.group.specs.Fits.{Fits}
 use Rattle.group.specs.Fresh.{freshGroup, freshAnswer}
-use Rattle.group.specs.Marks.{mark, modelIn, sheetIn, sheetInByLA}
+use Rattle.group.specs.Marks.{modelIn, sheetInByLA}
 use Rattle.group.specs.Read.{granted}
-use Rattle.group.specs.Request.{requestRefusal, markedGroup, requestAnswer}
+use Rattle.group.specs.Request.{requestRefusal, markedGroup}
 use Rattle.group.specs.declared.Group.{Group}
 use Rattle.group.proofs.Accepted.{accepted}
 use Rattle.group.proofs.Carrier.{sheet-number}
@@ -42,7 +42,7 @@ use Rattle.group.proofs.Fits.{fresh-fits, marked-fits, closed-fits}
 use Rattle.group.proofs.Quiet.{fresh-unmarked}
 use Rattle.group.proofs.Request.{request-code, request-refused, request-accepted}
 use Rattle.history.specs.Run.{Call, request, close, Reached, step, run, fresh, reached}
-use Rattle.history.specs.Strips.{keep, stripOf}
+use Rattle.history.specs.Strips.{stripOf}
 use Rattle.history.proofs.Keep.{strip-later}
 use Rattle.history.proofs.Sides.{stays, inOn, in-closed}
 use Rattle.history.proofs.Carried.{Carried, carried-marks, carried-before, fresh-carried}

@@ -1,39 +1,31 @@
 -- What the answers of a group that agrees with its events say in the formula's words. Assumes nothing.
-use mathlib.Core.Path.{_≡_, refl, sym, ap, _∙_}
+use mathlib.Core.Path.{_≡_, refl}
 use mathlib.Core.Bool.{Bool, true, false, cond}
 use mathlib.Core.Logic.{⊎-elim, _↔_}
-use mathlib.Core.List.{List, [], _∷_, _++_}
-use Prim.Native.Nat.{ℕ, suc, _+_, _≤_, _<_}
+use Prim.Native.Nat.{ℕ, _<_}
 use native.Mathlib.Numerals.{add-one}
 use native.Mathlib.Omega.{arith}
-use lib.Dec.{leb}
-use borrow.Author.Tests.{lt-leb, not-true}
+use borrow.Author.Tests.{lt-leb}
 use Rattle.base.proofs.First.{either}
 use Rattle.rules.specs.Ranges.{models, sheets}
-use Rattle.formula.specs.Formula.{Grant}
-use Rattle.formula.specs.Ticks.{grant}
-use Rattle.formula.proofs.Meaning.{means-grant}
-use Rattle.strip.specs.declared.Side.{Side}
-use Rattle.strip.specs.declared.Side.the-variants.{Model, Sheet}
-use Rattle.strip.specs.Good.{range, Good}
-use Rattle.group.specs.Accepted.{Accepted}
+use Rattle.strip.specs.Good.{range}
 use Rattle.group.specs.Carrier.{ofModel, carriers}
 use Rattle.group.specs.Read.{granted, readAnswer}
 use Rattle.group.specs.Request.{requestRefusal}
 use Rattle.group.specs.declared.Group.{Group}
-use Rattle.group.specs.declared.ReadAnswer.{ReadAnswer}
 use Rattle.group.specs.declared.ReadAnswer.the-variants.{Granted, Denied}
 use Rattle.group.proofs.Accepted.{accepted, not-refused}
 use Rattle.history.specs.Run.{Reached}
 use Rattle.history.specs.WellFormed.{sideOf, WellFormed}
-use Rattle.history.proofs.Agreed.{told, Agrees}
+use Rattle.history.proofs.Agreed.{Agrees}
 use Rattle.history.proofs.Requests.{accepted-good, good-accepted}
 use Rattle.history.proofs.Sides.{ofSide, carriers-range}
 
--- one answer is granted exactly when the test holds
+-- two constructors that were equal would make this one
 apart : _≡_ {A = ℕ} 0 1 → ⊥
 apart e = omega arith
 
+-- a read is granted exactly when the bit is set
 granted-says : (b : Bool) → (cond b Granted Denied ≡ Granted) ↔ (b ≡ true)
 granted-says true = (λ e. refl, λ e. refl)
 granted-says false = (λ e. absurd (apart (cc e)), λ e. absurd (apart (cc e)))
@@ -53,6 +45,7 @@ module _ (r : Reached) (a : Agrees r) (kind n : ℕ) where
   in-range : n < carriers kind → n < range (sideOf kind)
   in-range h = rw (carriers-range (sideOf kind) kind (own-side kind)) at h
 
+  -- a request is accepted exactly when its event is well-formed
   pub accepts : (requestRefusal (r .group) kind n ≡ 0) ↔ WellFormed r kind n
   accepts = (
     λ e.

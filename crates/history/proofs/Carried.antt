@@ -9,7 +9,6 @@ use lib.Dec.{eqb}
 use lib.ListN.{length, getD}
 use borrow.Author.Tests.{ne-eqb}
 use Rattle.rules.specs.Kinds.{LR, quiet}
-use Rattle.rules.specs.Ranges.{ticks}
 use Rattle.event.specs.Word.{wordOf, numberOf}
 use Rattle.event.proofs.Word.{tick-word, kind-word, number-word}
 use Rattle.formula.proofs.Move.{Same}
@@ -35,6 +34,7 @@ pub record Carried (g : Group) (t : ℕ) (ws : List ℕ) (side : Side) (n : ℕ)
   pub alternates : inOn side g n ≡ not (even (length (stripOf side n t ws)))
   pub tick : Open g side n t (stripOf side n t ws) (stripOf side n (suc t) ws)
 
+-- a number in range has its place in a word
 pub small : (side : Side) (n : ℕ) → n < range side → n < 512
 small Model n h = omega arith
 small Sheet n h = omega arith

@@ -6,4 +6,5 @@ pub mod Closes
 pub mod Gate
 pub mod Keep
 pub mod Requests
+pub mod Runs
 pub mod Sides

@@ -1,13 +1,13 @@
 -- The two sides of a group: which kinds are a side's, who is in on it, who is marked, and how a close moves it. Assumes nothing.
 use mathlib.Core.Path.{_≡_, refl, sym, ap, _∙_}
-use mathlib.Core.Bool.{Bool, true, false, not, cond, _&&_, _||_, false≢true}
+use mathlib.Core.Bool.{Bool, true, false, not, cond, _&&_, _||_, or-comm, and-comm}
 use mathlib.Core.Logic.{⊎-elim, _↔_}
-use Prim.Native.Nat.{ℕ, zero, suc, _%_, _≤_, _<_}
+use Prim.Native.Nat.{ℕ, suc, _%_, _≤_, _<_}
 use native.Mathlib.Omega.{arith}
 use lib.Dec.{eqb}
 use borrow.Author.Tests.{not-true, eqb-true, eqb-false, eq-eqb, ne-eqb}
 use Rattle.base.proofs.First.{either}
-use Rattle.rules.specs.Kinds.{SJ, LJ, SL, LL, SA, LA, SR, LR, quiet}
+use Rattle.rules.specs.Kinds.{SJ, LJ, SL, LL, SA, LA, SR, LR}
 use Rattle.rules.specs.Ranges.{models, sheets}
 use Rattle.event.specs.Word.{kindOf, numberOf}
 use Rattle.strip.specs.declared.Side.{Side}
@@ -17,7 +17,7 @@ use Rattle.strip.proofs.Places.{both}
 use Rattle.group.specs.Carrier.{ofModel, carriers, entering}
 use Rattle.group.specs.Close.{closedGroup}
 use Rattle.group.specs.Fits.{Fits}
-use Rattle.group.specs.Marks.{mark, modelMarked, sheetMarked, carrierMarked, modelIn, sheetIn, carrierIn}
+use Rattle.group.specs.Marks.{mark, modelMarked, sheetMarked, modelIn, sheetIn}
 use Rattle.group.specs.declared.Group.{Group}
 use Rattle.group.proofs.Close.{closed-modelIn, closed-sheetIn}
 use Rattle.group.proofs.Cases.{each-kind}
@@ -60,6 +60,7 @@ turn-side side place k h e = ⊎-elim
     (λ (f : even place ≡ false). both (ofSide side k) (not (entering k)) (sym (goes side k h) ∙ simp f at e) .0)
     (either (even place))
 
+-- after an even number of events a kind that enters is due, after an odd one a kind that leaves
 pub same-turn : (b e : Bool) → (cond b e (not e) ≡ true) ↔ (b ≡ e)
 same-turn true true = (λ x. refl, λ y. refl)
 same-turn true false = (λ x. sym x, λ y. sym y)
@@ -78,6 +79,7 @@ pub by-kind : {A : Type 0} (side : Side) (kind : ℕ) (a b : A) → ofSide side 
 by-kind Model kind a b e = simp e
 by-kind Sheet kind a b e = simp (not-true (ofModel kind) e)
 
+-- the carrier is in; it has a mark
 abbrev pub inOn : Side → Group → ℕ → Bool
 inOn side g n = bySide side (modelIn g n) (sheetIn g n)
 
@@ -104,6 +106,7 @@ carried-parts side n w e =
 abbrev pub Marks : Group → Side → ℕ → ℕ → Type 0
 Marks g side n o = (k : ℕ) → k ≤ LR → ofSide side k ≡ true → mark g k n ≡ eqb o k
 
+-- o is a kind of the side, and not quiet
 abbrev pub known : Side → ℕ → Bool
 known side o = bySide side (eqb o SJ || eqb o LJ || eqb o SL || eqb o LL) (eqb o SA || eqb o LA || eqb o SR || eqb o LR)
 
@@ -117,15 +120,9 @@ marked-known g Sheet n o h = simp (h SA (omega arith) refl, h LA (omega arith) r
 
 -- ---- a close
 
+-- in the gate's order and in the formula's
 pub stays : (was gone come : Bool) → was && not gone || come ≡ come || (not gone && was)
-stays true true true = refl
-stays true true false = refl
-stays true false true = refl
-stays true false false = refl
-stays false true true = refl
-stays false true false = refl
-stays false false true = refl
-stays false false false = refl
+stays was gone come = or-comm (was && not gone) come ∙ ap (λ (x : Bool). come || x) (and-comm was (not gone))
 
 -- who is in after the close: whoever comes, and whoever was in and does not go
 pub in-closed : (g : Group) → Fits g → (side : Side) (n o : ℕ) → n < range side → Marks g side n o
