@@ -4,6 +4,8 @@ pub mod Carrier
 pub mod Close
 pub mod Fits
 pub mod Held
+pub mod Cases
 pub mod Lent
+pub mod Quiet
 pub mod Request
 pub mod View
