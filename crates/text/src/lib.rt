@@ -1,19 +1,6 @@
 // Text in a lent buffer: bytes and decimal numbers, one behind the other. What doesn't fit is left out whole.
 ghost use mathlib.Core.Path.{_≡_};
-ghost use Prim.Native.Nat.{_+_, _≤_};
-ghost use lib.ListN.{length};
-ghost use Rattle.wire.specs.Put.{put};
 ghost use Rattle.text.specs.Text.{added, addedEnd, AddsDecimal};
-
-// Copies the text into the buffer from `at` on.
-fn copy(out: &mut [u8], at: usize, text: &[u8])
-    requires { ⌜ at + length (now text) ≤ length (now out) ⌝ }
-    ensures { λ _. ⌜ now (out .exit) ≡ put (now (out .entry)) at (now (text .entry)) ⌝ }
-{
-    for i in 0..text.len() {
-        out[at + i] = text[i];
-    }
-}
 
 // Adds the text at place `at` and answers the place behind it, or `at` where it doesn't fit.
 pub fn add(out: &mut [u8], at: usize, text: &[u8]) -> usize
@@ -25,8 +12,9 @@ pub fn add(out: &mut [u8], at: usize, text: &[u8]) -> usize
     if text.len() > out.len() - at {
         return at;
     }
-    copy(out, at, text);
-    at + text.len()
+    let end = at + text.len();
+    wire::copy(text, &mut out[at..end]);
+    end
 }
 
 // Adds a number in decimal digits, as few as it takes.
