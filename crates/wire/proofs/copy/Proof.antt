@@ -1,14 +1,7 @@
-<<<<<<< HEAD:crates/wire/proofs/copy/Proof.antt
 -- `wire::copy` meets its contract. What is copied so far stands in front of what is left to overwrite. Assumes nothing.
-use mathlib.Core.Path.{_≡_, refl, sym, ap, _∙_}
-use mathlib.Core.List.{List, [], _∷_, _++_, append-nil}
-use Prim.Native.Nat.{ℕ, suc, _+_, _-_, _≤_, _<_}
-=======
--- `store::write::copy` meets its contract. What is copied so far stands in front of what is left to overwrite. Assumes nothing.
 use mathlib.Core.Path.{_≡_, refl, ap, _∙_}
 use mathlib.Core.List.{List, _++_, append-nil}
 use Prim.Native.Nat.{ℕ, _+_, _-_, _≤_, _<_}
->>>>>>> 8979ad65c4e54629e3eb9ac8a3c772b007ea73bf:crates/store/proofs/write/copy/Proof.antt
 use native.Mathlib.Numerals.{add-one}
 use native.Mathlib.Omega.{arith}
 use borrow.Author.Needs.{needs}
