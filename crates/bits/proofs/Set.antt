@@ -1,10 +1,10 @@
 -- Laws of sets kept as words, over how many words there are and over the number. Assumes nothing.
 use mathlib.Core.Path.{_≡_, refl, sym, ap, ap₂, _∙_}
-use mathlib.Core.Bool.{Bool, true, false, not, _&&_, _||_, or-false}
+use mathlib.Core.Bool.{Bool, false, not, _&&_, _||_, or-false}
 use mathlib.Core.List.{List}
 use mathlib.Core.Logic.{⊎-elim}
-use Prim.Native.Nat.{ℕ, zero, suc, _+_, _-_, _*_, _/_, _%_, _^_, _≤_, _<_}
-use native.Mathlib.Nat.{mod-lt, zero-lt-suc, eq-or-lt-of-le}
+use Prim.Native.Nat.{ℕ, zero, suc, _/_, _%_, _^_, _≤_, _<_}
+use native.Mathlib.Nat.{mod-lt, zero-lt-suc}
 use native.Mathlib.Omega.{arith}
 use lib.Dec.{eqb, ltb}
 use lib.Bits.{bitOr, or-lt}
@@ -60,7 +60,7 @@ words-with ws i h l k = ⊎-elim
 
 -- ---- the empty set
 
-getD-none : (n k : ℕ) → getD (none n) k 0 ≡ 0
+pub getD-none : (n k : ℕ) → getD (none n) k 0 ≡ 0
 getD-none zero k = refl
 getD-none (suc n) zero = refl
 getD-none (suc n) (suc k) = getD-none n k

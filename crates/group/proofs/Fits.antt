@@ -1,30 +1,28 @@
 -- Fresh, request and close keep every word in its place. Assumes nothing.
-use mathlib.Core.Path.{_≡_, refl, sym, subst}
+use mathlib.Core.Path.{_≡_, refl}
 use mathlib.Core.Bool.{Bool, true, false, cond}
 use mathlib.Core.List.{List}
 use mathlib.Core.Logic.{⊎-elim}
-use Prim.Native.Nat.{ℕ, _+_, _/_, _^_, _≤_, _<_}
+use Prim.Native.Nat.{ℕ, _^_, _<_}
 use native.Mathlib.Omega.{arith}
 use lib.Dec.{eqb, leb}
-use lib.Bits.{bitAnd, bitOr, or-lt}
-use lib.ListN.{length, getD, length-replicate}
+use lib.Bits.{bitOr, or-lt}
+use lib.ListN.{length-replicate}
 use borrow.Author.Tests.{leb-false}
 use Rattle.base.proofs.First.{either as truth}
 use Rattle.base.proofs.Table.{length-table}
 use Rattle.rules.specs.Kinds.{SJ, LJ, SL, LL, SA, LA, SR, LR}
 use Rattle.rules.specs.Ranges.{models, sheets, groups, ticks}
 use Rattle.bits.specs.Bit.{width}
-use Rattle.bits.specs.Set.{none, Words}
+use Rattle.bits.specs.Set.{none}
 use Rattle.bits.proofs.Bit.{with-lt, and-lt, after-lt}
 use Rattle.bits.proofs.Set.{length-with, words-with, words-none, words-table, words-either, length-after, words-after}
-use Rattle.group.specs.Accepted.{Accepted}
 use Rattle.group.specs.Carrier.{ofModel, carriers, sheetWords}
 use Rattle.group.specs.Close.{closedMembers, removes, adds, closedAdded, closedLiberal, closedWord, closedWords, closedGroup, closeAnswer}
 use Rattle.group.specs.Fits.{Sized, Fits}
 use Rattle.group.specs.Fresh.{freshGroup, freshAnswer}
 use Rattle.group.specs.Request.{markedWord, markedSet, markedGroup, requestAnswer}
 use Rattle.group.specs.declared.Group.{Group}
-use Rattle.group.specs.declared.Answer.{Answer}
 use Rattle.group.proofs.Carrier.{sheet-number, model-number}
 use Rattle.group.proofs.Close.{close-cases}
 use Rattle.group.proofs.Request.{sheet-word, request-cases}

@@ -97,56 +97,56 @@ of-code r v is = LL.owed R.the-type R′.the-laws r (v ∷ []) is .0 .1
 abbrev pub Method : {M : Type 1} (𝓤 : URA M) (H : Heap 𝓤) (A : Atoms 𝓤) (f : Group → ℕ → ℕ → Answer) → Contract 𝓤
 Method 𝓤 H A f = tripleOf 𝓤 H A (method .signature) (closing 𝓤 H A method (method-says 𝓤 f))
 
-module _ {M : Type 1} (𝓤 : URA M) (H : Heap 𝓤) (A : Atoms 𝓤) (W : Given 𝓤 H A) (#f : Name) (f : Group → ℕ → ℕ → Answer) (κ : Lft) (q : Share) (b o : ℕ) (γ : GName) (h : Group) (k n : ℕ) (k-fits : k < 2 ^ 32) (n-fits : n < 2 ^ 32) where
+module _ {M : Type 1} (𝓤 : URA M) (H : Heap 𝓤) (A : Atoms 𝓤) (W : Given 𝓤 H A) (#f : Name) (f : Group → ℕ → ℕ → Answer) (κ : Lft) (q : Share) (b o : ℕ) (γ : GName) (was : Group) (first second : ℕ) (first-fits : first < 2 ^ 32) (second-fits : second < 2 ^ 32) where
   abbrev Arg : Type 0
   Arg = RefT Group × (ℕ × (ℕ × Unit {0}))
 
   abbrev x : Arg
-  x = (record { ptr = (b, o); name = γ; now = h }, (k, (n, tt)))
+  x = (record { ptr = (b, o); name = γ; now = was }, (first, (second, tt)))
 
   abbrev at : List Val × (List Val × (List Val × Unit {0}))
-  at = (vptr b o ∷ [], (vint w32 k ∷ [], (vint w32 n ∷ [], tt)))
+  at = (vptr b o ∷ [], (vint w32 first ∷ [], (vint w32 second ∷ [], tt)))
 
   abbrev Post : Val → SProp 𝓤
   Post = walkOf 𝓤 H A thin stayed (thin-says 𝓤 f) .post (((κ, tt), (q, tt), tt, x, at), tt)
 
-  exits : (r : Answer) → r ≡ f h k n → r .code < 2 ^ 32 → ent 𝓤 (⋆ 𝓤 H A (‵ (fobs γ (G.the-row .coded .code (r .group))) ∷ ‵ (fbor κ (Body (mem G.the-row) b o γ)) ∷ ‵ (flft κ q) ∷ [])) (Post (vint w32 (r .code)))
+  exits : (r : Answer) → r ≡ f was first second → r .code < 2 ^ 32 → ent 𝓤 (⋆ 𝓤 H A (‵ (fobs γ (G.the-row .coded .code (r .group))) ∷ ‵ (fbor κ (Body (mem G.the-row) b o γ)) ∷ ‵ (flft κ q) ∷ [])) (Post (vint w32 (r .code)))
   exits r e c-fits =
       qed W (‵ (fobs γ (G.the-row .coded .code (r .group))) ∷ ‵ (fbor κ (Body (mem G.the-row) b o γ)) ∷ ‵ (flft κ q) ∷ []) ∵
       suffices ! _ (ends-at 𝓤 H A thin stayed (thin-says 𝓤 f) W (((κ, tt), (q, tt), tt, x, at), tt) (vint w32 (r .code)) (r .code) (r .group, (tt, (tt, tt))) (tt, (tt, (tt, tt)))) $
       says ! (ap (λ (z : Answer). z .code) e, ap (λ (z : Answer). z .group) e) $ nothing ! $ move ! (3 ∷ 0 ∷ []) $ join ! $
-      frame ! $ feqI ! (List Val) (vptr b o ∷ []) (vptr b o ∷ []) refl $ fjoin3 ! $ nothing ! $ owned ! u32 (Is u32) (uint-makes 𝓤 H A W w32) n _ (refl, n-fits) $ fjoin ! $ owned ! u32 (Is u32) (uint-makes 𝓤 H A W w32) k _ (refl, k-fits) $ fjoin ! $ move ! (1 ∷ 0 ∷ []) $ fjoin ! $
+      frame ! $ feqI ! (List Val) (vptr b o ∷ []) (vptr b o ∷ []) refl $ fjoin3 ! $ nothing ! $ owned ! u32 (Is u32) (uint-makes 𝓤 H A W w32) second _ (refl, second-fits) $ fjoin ! $ owned ! u32 (Is u32) (uint-makes 𝓤 H A W w32) first _ (refl, first-fits) $ fjoin ! $ move ! (1 ∷ 0 ∷ []) $ fjoin ! $
       frame ! $ owned ! u32 (Is u32) (uint-makes 𝓤 H A W w32) (r .code) _ (refl, c-fits) $ done !
 
   -- the method is called with the group at entry and the two numbers, and asks nothing
   abbrev to-method : Method 𝓤 H A f .Ghost
-  to-method = ((tt, tt, tt, (h, (k, (n, tt))), (group-val h ∷ [], (vint w32 k ∷ [], (vint w32 n ∷ [], tt)))), tt)
+  to-method = ((tt, tt, tt, (was, (first, (second, tt))), (group-val was ∷ [], (vint w32 first ∷ [], (vint w32 second ∷ [], tt)))), tt)
 
-  goes-method : Is G.the-row h (group-val h ∷ []) → ent 𝓤 (emp 𝓤) (Method 𝓤 H A f .pre to-method)
+  goes-method : Is G.the-row was (group-val was ∷ []) → ent 𝓤 (emp 𝓤) (Method 𝓤 H A f .pre to-method)
   goes-method is =
-      qed W [] ∵ nothing ! $ owned ! u32 (Is u32) (uint-makes 𝓤 H A W w32) n _ (refl, n-fits) $ fjoin ! $ owned ! u32 (Is u32) (uint-makes 𝓤 H A W w32) k _ (refl, k-fits) $ fjoin ! $
-      owned ! G.the-row (Is G.the-row) (LL.makes G.the-type G′.the-plain 𝓤 H A) h _ is $ fjoin ! $ nothing ! $ join ! $ frame ! $ done !
+      qed W [] ∵ nothing ! $ owned ! u32 (Is u32) (uint-makes 𝓤 H A W w32) second _ (refl, second-fits) $ fjoin ! $ owned ! u32 (Is u32) (uint-makes 𝓤 H A W w32) first _ (refl, first-fits) $ fjoin ! $
+      owned ! G.the-row (Is G.the-row) (LL.makes G.the-type G′.the-plain 𝓤 H A) was _ is $ fjoin ! $ nothing ! $ join ! $ frame ! $ done !
 
   -- of what the method leaves, its promise alone
-  told : (r : Answer) → ent 𝓤 (ensured 𝓤 H A method (method-says 𝓤 f) tt (h, (k, (n, tt))) tt r) (fact 𝓤 (r ≡ f h k n))
-  told r = exE 𝓤 _ (λ ws. snd∗ 𝓤 (sem 𝓤 H A (lasts method tt (h, (k, (n, tt))) ws)) (fact 𝓤 (r ≡ f h k n)))
+  told : (r : Answer) → ent 𝓤 (ensured 𝓤 H A method (method-says 𝓤 f) tt (was, (first, (second, tt))) tt r) (fact 𝓤 (r ≡ f was first second))
+  told r = exE 𝓤 _ (λ ws. snd∗ 𝓤 (sem 𝓤 H A (lasts method tt (was, (first, (second, tt))) ws)) (fact 𝓤 (r ≡ f was first second)))
 
   module _ (C : Calls 𝓤 H) (Λ : Loops 𝓤 H) (fm : FmC 𝓤 H (W .laws) C) (known : Triple 𝓤 (C #f) (Method 𝓤 H A f)) where
-    walk : ent 𝓤 (onEntry 𝓤 H A (thin .signature) (κ, tt) (q, tt) x at) (WpFn 𝓤 H C Λ (function #f) (vptr b o ∷ vint w32 k ∷ vint w32 n ∷ []) Post)
+    walk : ent 𝓤 (onEntry 𝓤 H A (thin .signature) (κ, tt) (q, tt) x at) (WpFn 𝓤 H C Λ (function #f) (vptr b o ∷ vint w32 first ∷ vint w32 second ∷ []) Post)
     walk =
         qed W ((‵ (flft κ q) ⊛ ‵ ftrue) ∷ ‵ (owns (MutRef (named 0) κ G.the-row ∷ u32 ∷ u32 ∷ []) x at) ∷ []) ∵ split ! $ move ! (2 ∷ []) $ fsplit ! $ fsplit3 ! $ drop ! $ move ! (0 ∷ 1 ∷ 3 ∷ []) $
         -- what g stands for is kept through the entry: its last value, the borrow, the lifetime
-        enter ! C Λ (function #f) (vptr b o ∷ vint w32 k ∷ vint w32 n ∷ []) _ $
+        enter ! C Λ (function #f) (vptr b o ∷ vint w32 first ∷ vint w32 second ∷ []) _ $
         alloc1 ! (λ l₀. alloc1 ! (λ l₁. alloc1 ! (λ l₂. alloc1 ! (λ l₃. alloc1 ! (λ l₄. alloc1 ! (λ l₅. alloc0 ! $ params1 ! $
-        pass1 ! (init ! 8 refl (tt, tt)) $ pass1 ! (init ! 6 refl (tt, record { fits = k-fits })) $ pass1 ! (init ! 4 refl (tt, record { fits = n-fits })) $ pass0 ! $
-        move ! (12 ∷ 13 ∷ 14 ∷ []) $ opens ! tt G.the-row {h = h} b o (λ vs. spelt ! G.the-row (Is G.the-row) (shows 𝓤 H A G.the-row) (LL.vals G.the-type G′.the-laws) (LL.tells G.the-type G′.the-laws) fullShare h vs b o $
-        move ! (1 ∷ []) $ peeks ! G.the-row (Is G.the-row) (shows 𝓤 H A G.the-row) h (group-val h ∷ []) (λ is. drop ! $
+        pass1 ! (init ! 8 refl (tt, tt)) $ pass1 ! (init ! 6 refl (tt, record { fits = first-fits })) $ pass1 ! (init ! 4 refl (tt, record { fits = second-fits })) $ pass0 ! $
+        move ! (12 ∷ 13 ∷ 14 ∷ []) $ opens ! tt G.the-row {h = was} b o (λ vs. spelt ! G.the-row (Is G.the-row) (shows 𝓤 H A G.the-row) (LL.vals G.the-type G′.the-laws) (LL.tells G.the-type G′.the-laws) fullShare was vs b o $
+        move ! (1 ∷ []) $ peeks ! G.the-row (Is G.the-row) (shows 𝓤 H A G.the-row) was (group-val was ∷ []) (λ is. drop ! $
         -- the borrow is open and the group's cell is at the head: it is copied, and the method called
-        assigns ! (of-opd ! (load ! (from ! (hop ! (look ! 12 refl) (stop !))) (look-raw ! 0 refl))) (from ! (stop !)) (init ! 4 refl (LL.lawful G.the-type G′.the-laws 𝓤 H A W .typed h _ is .0)) $
+        assigns ! (of-opd ! (load ! (from ! (hop ! (look ! 12 refl) (stop !))) (look-raw ! 0 refl))) (from ! (stop !)) (init ! 4 refl (LL.lawful G.the-type G′.the-laws 𝓤 H A W .typed was _ is .0)) $
         use0 W (raw (Method 𝓤 H A f .pre to-method)) (goes-method is) $
         calls-at ! fm (Method 𝓤 H A f) known to-method (and-then ! (load ! (from ! (stop !)) (look ! 5 refl)) (and-then ! (load ! (from ! (stop !)) (look ! 11 refl)) (and-then ! (load ! (from ! (stop !)) (look ! 9 refl)) (no-more !)))) (λ v.
-        use1 W (later (some (λ (r : Answer). (‵ ftrue ⊛ ‵ (R.the-row .own r (v ∷ []))) ⊛ raw (ensured 𝓤 H A method (method-says 𝓤 f) tt (h, (k, (n, tt))) tt r)))) (id⊢ 𝓤 _) $ await ! tt $ pick ! (λ r.
-        split ! $ move ! (1 ∷ []) $ use1 W (raw (fact 𝓤 (r ≡ f h k n))) (told r) $ heard ! (r ≡ f h k n) (λ e. split ! $ drop ! $
+        use1 W (later (some (λ (r : Answer). (‵ ftrue ⊛ ‵ (R.the-row .own r (v ∷ []))) ⊛ raw (ensured 𝓤 H A method (method-says 𝓤 f) tt (was, (first, (second, tt))) tt r)))) (id⊢ 𝓤 _) $ await ! tt $ pick ! (λ r.
+        split ! $ move ! (1 ∷ []) $ use1 W (raw (fact 𝓤 (r ≡ f was first second))) (told r) $ heard ! (r ≡ f was first second) (λ e. split ! $ drop ! $
         peeks ! R.the-row (Is R.the-row) (shows 𝓤 H A R.the-row) r (v ∷ []) (λ isr. drop ! $
         land ! (from ! (stop !)) (init ! 6 refl (LL.lawful R.the-type R′.the-laws 𝓤 H A W .typed r _ isr .0)) $
         rewrite ! 6 (λ (u : Val). ‵ (fat fullShare R′.mir l₄ 0 u)) (ap only (LL.tells R.the-type R′.the-laws r (v ∷ []) isr)) refl $

@@ -1,12 +1,11 @@
 -- What a model sees after a request or a close, and what it is answered, are functions of what it saw before. Another model's request moves nothing
 -- of it. Assumes nothing.
-use mathlib.Core.Path.{_≡_, refl, sym, ap, _∙_}
-use mathlib.Core.Bool.{Bool, true, false, not, cond, _&&_, _||_, or-false, and-false}
-use mathlib.Core.List.{List}
-use mathlib.Core.Logic.{_⊎_, inl, inr, ⊎-elim}
+use mathlib.Core.Path.{_≡_, refl, sym, _∙_}
+use mathlib.Core.Bool.{true, false, cond, or-false, and-false}
+use mathlib.Core.Logic.{⊎-elim}
 use Prim.Native.Nat.{ℕ, _+_, _≤_, _<_}
 use native.Mathlib.Omega.{arith}
-use lib.Dec.{eqb, ltb, leb}
+use lib.Dec.{eqb, leb}
 use lib.ListN.{getD}
 use borrow.Author.Tests.{ltb-true, ne-eqb, leb-false}
 use Rattle.base.specs.Table.{table}
@@ -14,8 +13,8 @@ use Rattle.base.proofs.First.{either as truth}
 use Rattle.base.specs.HowMany.{howMany}
 use Rattle.base.proofs.HowMany.{howMany-ext}
 use Rattle.base.proofs.Table.{getD-table, table-ext}
-use Rattle.rules.specs.Kinds.{SJ, LJ, SL, LL, SA, LA, SR, LR}
-use Rattle.rules.specs.Ranges.{models, sheets, ticks}
+use Rattle.rules.specs.Kinds.{SA, LA, SR, LR}
+use Rattle.rules.specs.Ranges.{sheets, ticks}
 use Rattle.rules.specs.Refusals.{noTickLeft}
 use Rattle.bits.specs.Set.{none}
 use Rattle.bits.proofs.Bit.{bit-zero}
@@ -23,14 +22,10 @@ use Rattle.group.specs.Carrier.{ofModel, sheetWords}
 use Rattle.group.specs.Close.{closedAdded, closedLiberal, closedGroup, closeAnswer}
 use Rattle.group.specs.Count.{sheetsGranted}
 use Rattle.group.specs.Fits.{Fits}
-use Rattle.group.specs.Marks.{mark, modelIn}
 use Rattle.group.specs.Read.{granted, readAnswer}
-use Rattle.group.specs.Request.{requestRefusal, markedSet, markedGroup, requestAnswer}
+use Rattle.group.specs.Request.{requestRefusal, markedGroup, requestAnswer}
 use Rattle.group.specs.View.{View, view, viewRefusal, markedView, viewRequest, viewGranted, closedView, viewClose, viewRead}
 use Rattle.group.specs.declared.Group.{Group}
-use Rattle.group.specs.declared.Answer.{Answer}
-use Rattle.group.specs.declared.ReadAnswer.{ReadAnswer}
-use Rattle.group.specs.declared.ReadAnswer.the-variants.{Granted, Denied, Refused}
 use Rattle.group.proofs.Close.{closed-modelIn, closed-granted}
 use Rattle.group.proofs.Request.{bit-marked, request-code, request-cases}
 

@@ -1,6 +1,6 @@
 -- What a model can see of a group: its number and closed ticks, its own membership and marks, every sheet's membership and marks, and its own bit
 -- of every grant word. What a model is answered is stated as a function of this alone.
-use mathlib.Core.Bool.{Bool, true, false, not, cond, _&&_, _||_}
+use mathlib.Core.Bool.{Bool, false, not, cond, _&&_, _||_}
 use mathlib.Core.List.{List}
 use Prim.Native.Nat.{ℕ, _+_}
 use lib.Dec.{eqb, ltb, leb}

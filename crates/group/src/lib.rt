@@ -196,24 +196,20 @@ impl Group {
         if number >= carriers_of(kind) {
             return BAD_NUMBER;
         }
-        if self.closed >= TICKS {
+        let full = self.closed >= TICKS;
+        let marked = self.carrier_marked(kind, number);
+        let inside = self.carrier_in(kind, number);
+        let entering = is_entering(kind);
+        if full {
             return NO_TICK_LEFT;
         }
-        if self.carrier_marked(kind, number) {
+        if marked {
             return SECOND_EVENT;
         }
-        if is_entering(kind) {
-            if self.carrier_in(kind, number) {
-                ALREADY_IN
-            } else {
-                0
-            }
+        if entering {
+            if inside { ALREADY_IN } else { 0 }
         } else {
-            if self.carrier_in(kind, number) {
-                0
-            } else {
-                NOT_IN
-            }
+            if inside { 0 } else { NOT_IN }
         }
     }
 
@@ -279,6 +275,11 @@ impl Group {
         requires { ⌜ self .closed < ticks ⌝ }
         ensures { λ r. ⌜ r ≡ closedGroup self ⌝ }
     {
+        let closed = self.closed + 1;
+        let sj = self.sj;
+        let lj = self.lj;
+        let sl = self.sl;
+        let ll = self.ll;
         let sa = self.sa;
         let la = self.la;
         let sr = self.sr;
@@ -286,15 +287,15 @@ impl Group {
         let was_added = self.added;
         let was_liberal = self.liberal;
         let words = self.grants;
-        let members = bits::after_word(self.members, self.sl | self.ll, self.sj | self.lj);
+        let members = bits::after_word(self.members, sl | ll, sj | lj);
         let removes = bits::set_either(sr, lr);
         let adds = bits::set_either(sa, la);
         let added = bits::set_after(was_added, removes, adds);
         let liberal = bits::set_after(was_liberal, removes, la);
-        let grants = close_words(words, sr, adds, liberal, members, self.sl, self.lj);
+        let grants = close_words(words, sr, adds, liberal, members, sl, lj);
         Group {
             number: self.number,
-            closed: self.closed + 1,
+            closed: closed,
             members: members,
             sj: 0,
             lj: 0,
@@ -335,7 +336,7 @@ impl Group {
         let code = self.request_refusal(kind, number);
         if code == 0 {
             return Answer {
-                code: 0,
+                code: code,
                 group: self.marked(kind, number),
             };
         }
@@ -348,15 +349,15 @@ impl Group {
     pub fn close(self) -> Answer
         ensures { λ r. ⌜ r ≡ closeAnswer self ⌝ }
     {
-        if self.closed >= TICKS {
+        if self.closed < TICKS {
             return Answer {
-                code: NO_TICK_LEFT,
-                group: self,
+                code: 0,
+                group: self.after_close(),
             };
         }
         Answer {
-            code: 0,
-            group: self.after_close(),
+            code: NO_TICK_LEFT,
+            group: self,
         }
     }
 

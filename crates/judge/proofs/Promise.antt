@@ -6,6 +6,7 @@ use Prim.Native.Nat.{ℕ, _≤_, _<_}
 use native.Mathlib.Omega.{arith}
 use lib.Dec.{eqb}
 use lib.ListN.{length, getD}
+use denote.Ref.{RefT}
 use borrow.Author.Tests.{le-ltb, eq-eqb, ne-eqb}
 use Rattle.base.proofs.First.{first-is}
 use Rattle.rules.specs.Ranges.{ticks, events}
@@ -25,7 +26,7 @@ use Rattle.strip.specs.History.{historyOf}
 use Rattle.strip.proofs.Bad.{good-none}
 use Rattle.strip.proofs.Places.{tickAt, Rising, good-rising, history-means}
 use Rattle.judge.specs.Judge.{judgedBy}
-use Rattle.judge.specs.Evidence.{placeOf}
+use Rattle.judge.specs.Evidence.{placeOf, evidenceOf, startOf}
 
 -- no refusal applies
 pub record Accepted (m s : List ℕ) (now : ℕ) : Type 0 where
@@ -111,3 +112,17 @@ module _ (m s : List ℕ) (now : ℕ) (a : Accepted m s now) (t : ℕ) where
   -- the evidence by join starts with the model's liberal join
   pub evidence-join : judgedBy m s now ≡ Granted (Join t) → Record m LJ t
   evidence-join e = located m (good-rising Model now m (a .good-m)) LJ t (λ q. omega arith) (moment-join (judgedBy m s now) (judge-means m s now a) e .0)
+
+-- ---- the promises fix the answers
+
+-- two verdicts that meet the judge's promise are one
+pub one-verdict : (m s : List ℕ) (now : ℕ) (v w : Verdict) → v ≡ judgedBy m s now → w ≡ judgedBy m s now → v ≡ w
+one-verdict m s now v w p q = p ∙ sym q
+
+-- two parts that meet the evidence's promise hold the same words at the same place
+abbrev pub Meets : RefT (List ℕ) → RefT (List ℕ) → ℕ → RefT (List ℕ) → Type 0
+Meets m s now r =
+    (r .now ≡ evidenceOf (judgedBy (m .now) (s .now) now) (m .now) (s .now)) × (r .ptr ≡ startOf (judgedBy (m .now) (s .now) now) m s)
+
+pub one-evidence : (m s : RefT (List ℕ)) (now : ℕ) (r t : RefT (List ℕ)) → Meets m s now r → Meets m s now t → (r .now ≡ t .now) × (r .ptr ≡ t .ptr)
+one-evidence m s now r t p q = (p .0 ∙ sym (q .0), p .1 ∙ sym (q .1))

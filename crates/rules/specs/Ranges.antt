@@ -25,3 +25,7 @@ bookHeader = 20
 
 abbrev pub longestBook : ℕ
 longestBook = 16404
+
+-- the most bytes in a store
+abbrev pub storeBytes : ℕ
+storeBytes = 1048576

@@ -69,3 +69,16 @@ shortBuffer = 27
 
 abbrev pub shortList : ℕ
 shortList = 28
+
+-- a delivery: 31 to 34
+abbrev pub badStore : ℕ
+badStore = 31
+
+abbrev pub notInStore : ℕ
+notInStore = 32
+
+abbrev pub badEntry : ℕ
+badEntry = 33
+
+abbrev pub deliveryTooLong : ℕ
+deliveryTooLong = 34

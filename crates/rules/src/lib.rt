@@ -15,6 +15,9 @@ pub const BOOK_HEADER: usize = 20;
 
 pub const LONGEST_BOOK: usize = 16404;
 
+// The most bytes in a store.
+pub const STORE_BYTES: usize = 1048576;
+
 // Kinds: strict and liberal join, leave, add, remove.
 pub const SJ: u32 = 0;
 
@@ -80,3 +83,12 @@ pub const ILL_FORMED: u32 = 26;
 pub const SHORT_BUFFER: u32 = 27;
 
 pub const SHORT_LIST: u32 = 28;
+
+// Refusals of a delivery.
+pub const BAD_STORE: u32 = 31;
+
+pub const NOT_IN_STORE: u32 = 32;
+
+pub const BAD_ENTRY: u32 = 33;
+
+pub const DELIVERY_TOO_LONG: u32 = 34;

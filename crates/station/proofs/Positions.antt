@@ -1,5 +1,5 @@
 -- What the mask says: bit i is position i, and a position grants where its group does. Assumes nothing.
-use mathlib.Core.Path.{_≡_, refl, sym, ap, _∙_}
+use mathlib.Core.Path.{_≡_, refl, ap, _∙_}
 use mathlib.Core.Bool.{Bool, true, false, cond}
 use mathlib.Core.List.{List, [], _∷_}
 use Prim.Native.Nat.{ℕ, zero, suc, _+_, _*_, _/_, _%_, _^_, _<_, _≤_}
@@ -14,10 +14,9 @@ use Rattle.bits.specs.Bit.{bit}
 use Rattle.bits.proofs.Bit.{bit-low, bit-half}
 use Rattle.group.specs.Read.{granted, grantOf, readAnswer}
 use Rattle.group.specs.declared.Group.{Group}
-use Rattle.group.specs.declared.ReadAnswer.{ReadAnswer}
 use Rattle.group.specs.declared.ReadAnswer.the-variants.{Granted, Denied}
 use Rattle.station.specs.Mask.{grants, maskOf}
-use Rattle.station.proofs.Scan.{maskAt, mask-fits}
+use Rattle.station.proofs.Scan.{mask-fits}
 
 low-digit : (b : Bool) (r : ℕ) → eqb ((cond b 1 0 + 2 * r) % 2) 1 ≡ b
 low-digit true r = ap (λ (x : ℕ). eqb x 1) (let e : (1 + 2 * r) % 2 ≡ 1 = omega arith in e)

@@ -1,5 +1,5 @@
 -- The mask as a scan from the last position to the first: what it is at each position, and that it fits. Nothing here is about code. Assumes nothing.
-use mathlib.Core.Path.{_≡_, refl, sym, ap, _∙_}
+use mathlib.Core.Path.{_≡_, refl, _∙_}
 use mathlib.Core.Bool.{Bool, true, false, cond, _||_, true≢false}
 use mathlib.Core.List.{List, [], _∷_}
 use mathlib.Core.Logic.{⊎-elim}
@@ -14,10 +14,8 @@ use borrow.Author.Tests.{eqb-true, ltb-false}
 use Rattle.base.proofs.First.{either}
 use Rattle.rules.specs.Ranges.{groups}
 use Rattle.rules.specs.Refusals.{badList}
-use Rattle.group.specs.Read.{readRefusal}
 use Rattle.group.specs.declared.Group.{Group}
 use Rattle.station.specs.Mask.{grants, maskOf, listRefusal, lookedAt, answerWith, maskAnswer}
-use Rattle.station.specs.declared.MaskAnswer.{MaskAnswer}
 
 -- the mask of the first e groups from position t on
 abbrev pub maskAt : List Group → ℕ → ℕ → ℕ → ℕ → ℕ

@@ -1,12 +1,13 @@
 -- What putting a list into another does: its length, what stays, and one put after another. Assumes nothing.
-use mathlib.Core.Path.{_≡_, refl, sym, ap, ap₂, _∙_}
+use mathlib.Core.Path.{_≡_, sym, ap, ap₂, _∙_}
 use mathlib.Core.List.{List, [], _∷_, _++_, append-assoc}
-use Prim.Native.Nat.{ℕ, zero, suc, _+_, _-_, _≤_, _<_}
+use Prim.Native.Nat.{ℕ, _+_, _-_, _≤_, _<_}
 use native.Mathlib.Nat.{add-zero, zero-add, add-assoc}
 use native.Mathlib.Numerals.{add-one}
 use native.Mathlib.Omega.{arith}
 use lib.ListN.{length, getD, take, drop, set, take-append-drop, length-append, length-drop, List·getD-append}
 use lib.Seq.{length-take-le, take-at, drop-at, drop-drop, getD-take, getD-drop, getD-append-add, set-split}
+use borrow.Rule.Slice.PartMut.{putMid}
 use Rattle.wire.specs.Put.{put}
 
 -- nothing put is nothing changed
@@ -23,6 +24,11 @@ put-one d at x h = rw (add-one, set-split)
 pub put-front : (d l : List ℕ) → put d 0 l ≡ l ++ drop (length l) d
 unfolding put
 put-front d l = rw zero-add
+
+-- a part that was lent and is back, is put
+pub put-lent : (d l : List ℕ) (at end : ℕ) → length l ≡ end - at → putMid at (end - at) d l ≡ put d at l
+unfolding put
+put-lent d l at end e = simp (drop-drop, e)
 
 module _ (d : List ℕ) (at : ℕ) (l : List ℕ) (room : at + length l ≤ length d) where
   before : length (take at d) ≡ at

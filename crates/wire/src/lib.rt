@@ -1,7 +1,7 @@
 // Words in bytes: unsigned 32-bit numbers, little-endian. Every file number of the gate stands so.
 ghost use mathlib.Core.Path.{_≡_};
 ghost use mathlib.Core.List.{_++_};
-ghost use Prim.Native.Nat.{_+_, _≤_, _<_, _/_};
+ghost use Prim.Native.Nat.{_+_, _*_, _≤_, _/_};
 ghost use lib.ListN.{length, drop};
 ghost use Rattle.wire.specs.Word.{le32};
 ghost use Rattle.wire.specs.Put.{put32};
@@ -12,14 +12,14 @@ pub fn read32(b: &[u8], at: usize) -> u32
     requires { ⌜ at + 4 ≤ length (now b) ⌝ }
     ensures { λ r. ⌜ r ≡ le32 (now (b .entry)) at ⌝ }
 {
-    wide(b[at]) + wide(b[at + 1]) * 256 + wide(b[at + 2]) * 65536 + wide(b[at + 3]) * 16777216
+    word_of(b[at], b[at + 1], b[at + 2], b[at + 3])
 }
 
-// A byte as a word: it asks no proof that a byte which was read fits.
-fn wide(x: u8) -> u32
-    ensures { λ r. ⌜ (r ≡ x) × (r < 256) ⌝ }
+// The word of four bytes, the least significant first.
+fn word_of(p: u8, q: u8, r: u8, s: u8) -> u32
+    ensures { λ w. ⌜ w ≡ p + q * 256 + r * 65536 + s * 16777216 ⌝ }
 {
-    x as u32
+    p as u32 + (q as u32) * 256 + (r as u32) * 65536 + (s as u32) * 16777216
 }
 
 // Puts x into the four bytes from `at` on.
@@ -43,4 +43,14 @@ pub fn decode(b: &[u8], out: &mut [u32]) -> usize
         out[i] = read32(b, i * 4);
     }
     n
+}
+
+// Copies bytes: one plain forward loop, which the compiler makes a block copy.
+pub fn copy(from: &[u8], to: &mut [u8])
+    requires { ⌜ length (now to) ≡ length (now from) ⌝ }
+    ensures { λ _. ⌜ now (to .exit) ≡ now (from .entry) ⌝ }
+{
+    for i in 0..from.len() {
+        to[i] = from[i];
+    }
 }

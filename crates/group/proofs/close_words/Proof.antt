@@ -2,7 +2,7 @@
 use mathlib.Core.Path.{_≡_, sym, _∙_}
 use Prim.Native.Nat.{_-_, _≤_}
 use native.Mathlib.Omega.{arith}
-use lib.ListN.{length, getD}
+use lib.ListN.{length}
 use Rattle.base.proofs.Front.{front, front-none, turn, last}
 use Rattle.rules.specs.Ranges.{sheets}
 use Rattle.bits.specs.Set.{has}

@@ -1,5 +1,4 @@
 -- `group::mark_set` meets its contract.
-use borrow.Author.Needs.{needs}
 use Rattle.group.proofs.mark_set.Statement.{statement}
 use Rattle.group.proofs.mark_set.Tie as tie
 

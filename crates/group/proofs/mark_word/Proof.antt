@@ -1,5 +1,4 @@
 -- `group::mark_word` meets its contract.
-use borrow.Author.Needs.{needs}
 use Rattle.group.proofs.mark_word.Statement.{statement}
 use Rattle.group.proofs.mark_word.Tie as tie
 

@@ -1,84 +1,47 @@
--- `wire::read32` meets its contract: the sum of the four bytes at their weights fits, and is the word. Assumes nothing.
-use native.Mathlib.Omega.{arith}
+-- `wire::read32` meets its contract: the word of the four bytes is the word at their place. Assumes nothing.
 use Rattle.wire.specs.Word.{le32}
 use borrow.Author.Needs.{needs}
 use Rattle.wire.proofs.read32.Statement.{statement}
 use Rattle.wire.proofs.read32.Tie as tie
 
-shared-slice-read-wide : tie.Need-shared-slice-read-wide
-shared-slice-read-wide c = search needs
+shared-slice-read-word-of : tie.Need-shared-slice-read-word-of
+shared-slice-read-word-of c = search needs
 
-wide-requires : tie.Need-wide-requires
-wide-requires c κs = search needs
+add-word-of : tie.Need-add-word-of
+add-word-of c = search needs
 
-add-wide : tie.Need-add-wide
-add-wide c = search needs
+shared-slice-read-word-of-2 : tie.Need-shared-slice-read-word-of-2
+shared-slice-read-word-of-2 c = search needs
 
-shared-slice-read-wide-2 : tie.Need-shared-slice-read-wide-2
-shared-slice-read-wide-2 c = search needs
+add-word-of-2 : tie.Need-add-word-of-2
+add-word-of-2 c = search needs
 
-wide-requires-2 : tie.Need-wide-requires-2
-wide-requires-2 c κs = search needs
+shared-slice-read-word-of-3 : tie.Need-shared-slice-read-word-of-3
+shared-slice-read-word-of-3 c = search needs
 
-mul-result : tie.Need-mul-result
-mul-result c = search needs
+add-word-of-3 : tie.Need-add-word-of-3
+add-word-of-3 c = search needs
 
-add-result : tie.Need-add-result
-add-result c = search needs
+shared-slice-read-word-of-4 : tie.Need-shared-slice-read-word-of-4
+shared-slice-read-word-of-4 c = search needs
 
-add-wide-2 : tie.Need-add-wide-2
-add-wide-2 c = search needs
-
-shared-slice-read-wide-3 : tie.Need-shared-slice-read-wide-3
-shared-slice-read-wide-3 c = search needs
-
-wide-requires-3 : tie.Need-wide-requires-3
-wide-requires-3 c κs = search needs
-
-mul-result-2 : tie.Need-mul-result-2
-mul-result-2 c = search needs
-
-add-result-2 : tie.Need-add-result-2
-add-result-2 c = search needs
-
-add-wide-3 : tie.Need-add-wide-3
-add-wide-3 c = search needs
-
-shared-slice-read-wide-4 : tie.Need-shared-slice-read-wide-4
-shared-slice-read-wide-4 c = search needs
-
-wide-requires-4 : tie.Need-wide-requires-4
-wide-requires-4 c κs = search needs
-
-mul-result-3 : tie.Need-mul-result-3
-mul-result-3 c = search needs
-
-add-result-3 : tie.Need-add-result-3
-add-result-3 c = search needs
+word-of-requires : tie.Need-word-of-requires
+word-of-requires c κs = search needs
 
 returns : tie.Need-returns
 unfolding le32
-returns c = omega arith
+returns c = c .word-of .ensures
 
 pub read32-spec : {M : Type 1} → statement M
 read32-spec =
     tie.close
     (tie.spec
-    shared-slice-read-wide
-    wide-requires
-    add-wide
-    shared-slice-read-wide-2
-    wide-requires-2
-    mul-result
-    add-result
-    add-wide-2
-    shared-slice-read-wide-3
-    wide-requires-3
-    mul-result-2
-    add-result-2
-    add-wide-3
-    shared-slice-read-wide-4
-    wide-requires-4
-    mul-result-3
-    add-result-3
+    shared-slice-read-word-of
+    add-word-of
+    shared-slice-read-word-of-2
+    add-word-of-2
+    shared-slice-read-word-of-3
+    add-word-of-3
+    shared-slice-read-word-of-4
+    word-of-requires
     returns)

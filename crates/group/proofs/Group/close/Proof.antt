@@ -5,16 +5,16 @@ use borrow.Author.Needs.{needs}
 use Rattle.group.proofs.Group.close.Statement.{statement}
 use Rattle.group.proofs.Group.close.Tie as tie
 
-returns : tie.Need-returns
-unfolding closeAnswer
-returns c = simp (le-leb _ _ (c .if1 .taken))
-
 after-close-requires : tie.Need-after-close-requires
 after-close-requires c κs = search needs
 
+returns : tie.Need-returns
+unfolding closeAnswer
+returns c = simp (lt-leb _ _ (c .before .if1 .taken), c .after-close .ensures)
+
 returns-2 : tie.Need-returns-2
 unfolding closeAnswer
-returns-2 c = simp (lt-leb _ _ (c .before .if1 .left), c .after-close .ensures)
+returns-2 c = simp (le-leb _ _ (c .if1 .left))
 
 pub close-spec : {M : Type 1} → statement M
-close-spec = tie.close (tie.spec returns after-close-requires returns-2)
+close-spec = tie.close (tie.spec after-close-requires returns returns-2)

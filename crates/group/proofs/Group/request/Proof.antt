@@ -1,7 +1,7 @@
 -- `group::Group::request` meets its contract: the mark is set only where no refusal is given.
 use mathlib.Core.Path.{sym, _∙_}
-use borrow.Author.Tests.{eq-eqb, ne-eqb}
-use Rattle.group.specs.Request.{requestRefusal, requestAnswer}
+use borrow.Author.Tests.{ne-eqb}
+use Rattle.group.specs.Request.{requestAnswer}
 use Rattle.group.proofs.Accepted.{accepted}
 use borrow.Author.Needs.{needs}
 use Rattle.group.proofs.Group.request.Statement.{statement}
@@ -15,7 +15,7 @@ marked-requires c κs = accepted (c .before .before .args .self) _ _ (sym (c .be
 
 returns : tie.Need-returns
 unfolding requestAnswer
-returns c = simp (sym (c .before .before .request-refusal .ensures), eq-eqb _ _ (c .before .if1 .taken), c .marked .ensures)
+returns c = simp (sym (c .before .before .request-refusal .ensures), c .before .if1 .taken, c .marked .ensures)
 
 returns-2 : tie.Need-returns-2
 unfolding requestAnswer

@@ -1,34 +1,43 @@
--- `group::Group::request_refusal` meets its contract: each return by the tests that were passed on the way.
-use mathlib.Core.Path.{_≡_, sym, subst, _∙_}
-use mathlib.Core.Bool.{false}
+-- `group::Group::request_refusal` meets its contract: past the ranges the four tests are those of the definition, in its order.
+use mathlib.Core.Path.{_≡_, sym, subst}
+use mathlib.Core.Bool.{Bool, cond}
 use Prim.Native.Nat.{ℕ, _<_}
-use lib.Dec.{ltb, leb}
+use lib.Dec.{leb}
 use borrow.Author.Tests.{lt-ltb, le-ltb, le-leb, lt-leb}
-use Rattle.rules.specs.Kinds.{LR}
 use Rattle.rules.specs.Ranges.{ticks}
+use Rattle.rules.specs.Refusals.{noTickLeft, secondEvent, alreadyIn, notIn}
 use Rattle.group.specs.Carrier.{carriers}
-use Rattle.group.specs.Marks.{carrierMarked}
 use Rattle.group.specs.Request.{requestRefusal}
 use borrow.Author.Needs.{needs}
 use Rattle.group.proofs.Group.request_refusal.Statement.{statement}
 use Rattle.group.proofs.Group.request_refusal.Tie as tie
 
--- what the tests passed so far say
-module _ (c : tie.Else2) where
-  abbrev kind : ℕ
-  kind = c .before .before .before .args .kind
+-- where the kind and the number are in range, what is left of the order, over what the calls gave
+module _ (c : tie.After-is-entering) where
+  abbrev start : tie.Start
+  start = c .before .before .before .before .before .before .before
 
-  abbrev number : ℕ
-  number = c .before .before .before .args .number
+  abbrev marked : Bool
+  marked = c .before .before .carrier-marked .result
 
-  number-lt : number < carriers kind
-  number-lt = subst (λ (n : ℕ). number < n) (c .before .carriers-of .ensures) (c .if2 .left)
+  abbrev inside : Bool
+  inside = c .before .carrier-in .result
 
-  kind-good : ltb LR kind ≡ false
-  kind-good = le-ltb _ _ (c .before .before .if1 .left)
-
-  number-good : leb (carriers kind) number ≡ false
-  number-good = lt-leb _ _ number-lt
+  in-order : requestRefusal (start .args .self) (start .args .kind) (start .args .number)
+      ≡ cond (leb ticks (start .args .self .closed)) noTickLeft
+      (cond marked secondEvent
+      (cond (c .is-entering .result) (cond inside alreadyIn 0) (cond inside 0 notIn)))
+  unfolding requestRefusal
+  in-order =
+      let at = c .before .before .before .before in
+      let number : start .args .number < carriers (start .args .kind) = subst (λ (n : ℕ). start .args .number < n) (at .before .carriers-of .ensures) (at .if2 .left) in
+      simp (
+        le-ltb _ _ (at .before .before .if1 .left),
+        lt-leb _ _ number,
+        c .before .before .carrier-marked .ensures,
+        c .before .carrier-in .ensures,
+        c .is-entering .ensures,
+      )
 
 returns : tie.Need-returns
 unfolding requestRefusal
@@ -41,45 +50,32 @@ returns-2 : tie.Need-returns-2
 unfolding requestRefusal
 returns-2 c = simp (le-ltb _ _ (c .before .before .if1 .left), sym (c .before .carriers-of .ensures), le-leb _ _ (c .if2 .taken))
 
-returns-3 : tie.Need-returns-3
-unfolding requestRefusal
-returns-3 c = simp (kind-good (c .before .before), number-good (c .before .before), le-leb _ _ (c .if3 .taken))
-
 carrier-marked-requires : tie.Need-carrier-marked-requires
-carrier-marked-requires c κs = number-lt (c .before .before)
+carrier-marked-requires c κs = search needs
 
-returns-4 : tie.Need-returns-4
-unfolding requestRefusal
-returns-4 c = simp (kind-good (c .before .before .before .before), number-good (c .before .before .before .before), lt-leb _ _ (c .before .before .if3 .left), sym (c .before .carrier-marked .ensures) ∙ c .if4 .taken)
+carrier-in-requires : tie.Need-carrier-in-requires
+carrier-in-requires c κs = search needs
 
 is-entering-requires : tie.Need-is-entering-requires
 is-entering-requires c κs = search needs
 
-carrier-in-requires : tie.Need-carrier-in-requires
-carrier-in-requires c κs = number-lt (c .before .before .before .before .before .before)
+returns-3 : tie.Need-returns-3
+returns-3 c = simp (in-order (c .before), c .if3 .taken)
 
-carrier-in-requires-2 : tie.Need-carrier-in-requires-2
-carrier-in-requires-2 c κs = number-lt (c .before .before .before .before .before .before)
+returns-4 : tie.Need-returns-4
+returns-4 c = simp (in-order (c .before .before), c .before .if3 .left, c .if4 .taken)
 
 returns-5 : tie.Need-returns-5
-unfolding requestRefusal
-returns-5 c =
-    simp (kind-good (c .before .before .before .before .before .before .before .before), number-good (c .before .before .before .before .before .before .before .before), lt-leb _ _ (c .before .before .before .before .before .before .if3 .left), sym (c .before .before .before .before .before .carrier-marked .ensures) ∙ c .before .before .before .before .if4 .left, sym (c .before .before .before .is-entering .ensures) ∙ c .before .before .if5 .taken, sym (c .before .carrier-in .ensures) ∙ c .if6 .taken)
+returns-5 c = simp (in-order (c .before .before .before .before), c .before .before .before .if3 .left, c .before .before .if4 .left, c .before .if5 .taken, c .if6 .taken)
 
 returns-6 : tie.Need-returns-6
-unfolding requestRefusal
-returns-6 c =
-    simp (kind-good (c .before .before .before .before .before .before .before .before), number-good (c .before .before .before .before .before .before .before .before), lt-leb _ _ (c .before .before .before .before .before .before .if3 .left), sym (c .before .before .before .before .before .carrier-marked .ensures) ∙ c .before .before .before .before .if4 .left, sym (c .before .before .before .is-entering .ensures) ∙ c .before .before .if5 .taken, sym (c .before .carrier-in .ensures) ∙ c .if6 .left)
+returns-6 c = simp (in-order (c .before .before .before .before), c .before .before .before .if3 .left, c .before .before .if4 .left, c .before .if5 .taken, c .if6 .left)
 
 returns-7 : tie.Need-returns-7
-unfolding requestRefusal
-returns-7 c =
-    simp (kind-good (c .before .before .before .before .before .before .before .before), number-good (c .before .before .before .before .before .before .before .before), lt-leb _ _ (c .before .before .before .before .before .before .if3 .left), sym (c .before .before .before .before .before .carrier-marked .ensures) ∙ c .before .before .before .before .if4 .left, sym (c .before .before .before .is-entering .ensures) ∙ c .before .before .if5 .left, sym (c .before .carrier-in2 .ensures) ∙ c .if7 .taken)
+returns-7 c = simp (in-order (c .before .before .before .before), c .before .before .before .if3 .left, c .before .before .if4 .left, c .before .if5 .left, c .if7 .taken)
 
 returns-8 : tie.Need-returns-8
-unfolding requestRefusal
-returns-8 c =
-    simp (kind-good (c .before .before .before .before .before .before .before .before), number-good (c .before .before .before .before .before .before .before .before), lt-leb _ _ (c .before .before .before .before .before .before .if3 .left), sym (c .before .before .before .before .before .carrier-marked .ensures) ∙ c .before .before .before .before .if4 .left, sym (c .before .before .before .is-entering .ensures) ∙ c .before .before .if5 .left, sym (c .before .carrier-in2 .ensures) ∙ c .if7 .left)
+returns-8 c = simp (in-order (c .before .before .before .before), c .before .before .before .if3 .left, c .before .before .if4 .left, c .before .if5 .left, c .if7 .left)
 
 pub request-refusal-spec : {M : Type 1} → statement M
 request-refusal-spec =
@@ -88,12 +84,11 @@ request-refusal-spec =
     returns
     carriers-of-requires
     returns-2
-    returns-3
     carrier-marked-requires
-    returns-4
-    is-entering-requires
     carrier-in-requires
-    carrier-in-requires-2
+    is-entering-requires
+    returns-3
+    returns-4
     returns-5
     returns-6
     returns-7

@@ -1,0 +1,2 @@
+-- Laws of event words.
+pub mod Word

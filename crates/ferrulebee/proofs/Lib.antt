@@ -1,0 +1,2 @@
+-- What the promises of the exported calls fix.
+pub mod Promise

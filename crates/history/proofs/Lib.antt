@@ -1,0 +1,10 @@
+-- Laws of runs: the gate answers by the published formula over the events that it accepted. Gate.antt states them.
+pub mod Agreed
+pub mod Answers
+pub mod Carried
+pub mod Closes
+pub mod Gate
+pub mod Keep
+pub mod Requests
+pub mod Runs
+pub mod Sides

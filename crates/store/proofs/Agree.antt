@@ -1,0 +1,155 @@
+-- A delivery depends on nothing but what `Agree` names: where two stores and two groups agree there, the answers are equal and so are the buffers. Assumes nothing.
+use mathlib.Core.Path.{_≡_, refl, sym, ap, ap₂, _∙_}
+use mathlib.Core.Bool.{Bool, true, false, not, _&&_, cond}
+use mathlib.Core.List.{List, [], _∷_, _++_}
+use mathlib.Core.Logic.{⊎-elim}
+use Prim.Native.Nat.{ℕ, zero, suc, _+_, _<_}
+use native.Mathlib.Omega.{arith}
+use borrow.Author.Tests.{ltb-true, ltb-false}
+use lib.Dec.{leb, ltb, eqb}
+use lib.ListN.{length, getD}
+use Rattle.base.specs.First.{first}
+use Rattle.base.proofs.First.{either, first-le, first-there}
+use Rattle.rules.specs.Ranges.{models, sheets}
+use Rattle.rules.specs.Refusals.{notInStore, badEntry}
+use Rattle.wire.specs.Word.{le32, bytes32}
+use Rattle.wire.proofs.Word.{le32-take}
+use Rattle.store.specs.declared.Delivery.{Delivery}
+use Rattle.store.specs.Store.{totalLength, sheetCount, goodStore}
+use Rattle.store.specs.Entry.{goodEntry, entryFault}
+use Rattle.store.specs.Granted.{granted, grantedBelow}
+use Rattle.store.specs.Fault.{faulty, firstFaulty}
+use Rattle.store.specs.Delivery.{part, parts, deliveryOf, grantedSheets}
+use Rattle.store.specs.Answer.{answer, written, bufferAfter}
+use Rattle.store.specs.Agree.{Agree}
+use Rattle.store.proofs.Store.{both}
+use Rattle.store.proofs.Entry.{fault-missing, sound}
+use Rattle.store.proofs.Fault.{fault-free}
+use Rattle.store.proofs.Listed.{granted-exactly}
+
+-- tests that agree below n find the same first place
+first-same : (p q : ℕ → Bool) (n : ℕ) → ((k : ℕ) → k < n → p k ≡ q k) → first p n ≡ first q n
+unfolding first
+first-same p q zero h = refl
+first-same p q (suc n) h =
+    ap₂ (λ (f : ℕ) (t : Bool). cond (ltb f n) f (cond t n (suc n))) (first-same p q n (λ k l. h k (omega arith))) (h n (omega arith))
+
+below-same : (grants grants′ : List ℕ) (m n : ℕ) → ((s : ℕ) → s < n → granted grants m s ≡ granted grants′ m s) → grantedBelow grants m n ≡ grantedBelow grants′ m n
+unfolding grantedBelow
+below-same grants grants′ m zero h = refl
+below-same grants grants′ m (suc n) h =
+    ap₂ (λ (l : List ℕ) (t : Bool). l ++ cond t (n ∷ []) []) (below-same grants grants′ m n (λ s l. h s (omega arith))) (h n (omega arith))
+
+parts-same : (b b′ ss : List ℕ) → ((i : ℕ) → i < length ss → part b (getD ss i 0) ≡ part b′ (getD ss i 0)) → parts b ss ≡ parts b′ ss
+unfolding parts
+parts-same b b′ [] h = refl
+parts-same b b′ (s ∷ ss) h =
+    ap₂ (λ (x y : List ℕ). x ++ y) (h 0 (omega arith)) (parts-same b b′ ss (λ i l. h (suc i) (omega arith)))
+
+-- where a granted sheet is faulty, whatever the refusal is, the buffer stays
+faulty-keeps : (grants : List ℕ) (m : ℕ) (b : List ℕ) (room : ℕ) → ltb (firstFaulty grants m b) sheets ≡ true
+    → (delivery out : List ℕ) → written (answer grants m b room) delivery out ≡ out
+unfolding answer
+faulty-keeps grants m b room t delivery out = ⊎-elim
+    (λ (u : leb models m ≡ true). simp u)
+    (λ (k : leb models m ≡ false).
+    ⊎-elim
+    (λ (g : goodStore b ≡ true). simp (k, g, t))
+    (λ (g : goodStore b ≡ false). simp (k, g))
+    (either (goodStore b)))
+    (either (leb models m))
+
+module _ (grants grants′ : List ℕ) (m : ℕ) (b b′ : List ℕ) (same : Agree grants grants′ m b b′) where
+  same-total : totalLength b ≡ totalLength b′
+  same-total = sym (le32-take b 8 0 (omega arith)) ∙ ap (λ (l : List ℕ). le32 l 0) (same .header) ∙ le32-take b′ 8 0 (omega arith)
+
+  same-count : sheetCount b ≡ sheetCount b′
+  same-count = sym (le32-take b 8 4 (omega arith)) ∙ ap (λ (l : List ℕ). le32 l 4) (same .header) ∙ le32-take b′ 8 4 (omega arith)
+
+  same-store : goodStore b ≡ goodStore b′
+  unfolding goodStore
+  same-store = simp (same-total, same-count, same .long)
+
+  module _ (s : ℕ) (h : s < sheets) (g : granted grants m s ≡ true) where
+    same-entry : s < sheetCount b → goodEntry b s ≡ goodEntry b′ s
+    unfolding goodEntry
+    same-entry l = simp (same-total, same-count, same .offsets s h g l, same .lengths s h g l)
+
+    same-fault : entryFault b s ≡ entryFault b′ s
+    unfolding entryFault
+    same-fault = ⊎-elim
+        (λ (t : ltb s (sheetCount b) ≡ true). ap₂ (λ (n : ℕ) (x : Bool). cond (ltb s n) (cond x 0 badEntry) notInStore) same-count (same-entry (ltb-true _ _ t)))
+        (λ (f : ltb s (sheetCount b) ≡ false).
+        let beyond = ltb-false _ _ f in
+        fault-missing b s beyond ∙ sym (fault-missing b′ s (omega (arith, same-count))))
+        (either (ltb s (sheetCount b)))
+
+    same-part : entryFault b s ≡ 0 → part b s ≡ part b′ s
+    unfolding part
+    same-part e =
+        ap₂ (λ (n : ℕ) (l : List ℕ). bytes32 s ++ (bytes32 n ++ l)) (same .lengths s h g (sound b s e .inside)) (same .bytes s h g e)
+
+  same-faulty : (s : ℕ) → s < sheets → faulty grants m b s ≡ faulty grants′ m b′ s
+  unfolding faulty
+  same-faulty s h = ⊎-elim
+      (λ (t : granted grants m s ≡ true). ap₂ (λ (x : Bool) (n : ℕ). x && not (eqb n 0)) (same .bits s h) (same-fault s h t))
+      (λ (f : granted grants m s ≡ false). simp (f, sym (same .bits s h) ∙ f))
+      (either (granted grants m s))
+
+  same-first : firstFaulty grants m b ≡ firstFaulty grants′ m b′
+  same-first = first-same (faulty grants m b) (faulty grants′ m b′) sheets same-faulty
+
+  same-sheets : grantedSheets grants m ≡ grantedSheets grants′ m
+  same-sheets = below-same grants grants′ m sheets (same .bits)
+
+  same-parts : firstFaulty grants m b ≡ sheets → parts b (grantedSheets grants m) ≡ parts b′ (grantedSheets grants′ m)
+  same-parts all =
+      parts-same b b′ (grantedSheets grants m)
+      (λ i h.
+      let so = granted-exactly grants m .only i h in
+      same-part (getD (grantedSheets grants m) i 0) (so .0) (so .1) (fault-free grants m b _ all (so .0) (so .1)))
+      ∙ ap (parts b′) same-sheets
+
+  -- a faulty sheet is a granted one
+  first-granted : firstFaulty grants m b < sheets → granted grants m (firstFaulty grants m b) ≡ true
+  unfolding faulty
+  first-granted h = both _ _ (first-there (faulty grants m b) sheets h) .0
+
+  through : ltb (firstFaulty grants m b) sheets ≡ false → firstFaulty grants m b ≡ sheets
+  through f =
+      let past = ltb-false (firstFaulty grants m b) sheets f in
+      omega (arith, first-le (faulty grants m b) sheets)
+
+  same-delivery : firstFaulty grants m b ≡ sheets → deliveryOf b (grantedSheets grants m) ≡ deliveryOf b′ (grantedSheets grants′ m)
+  same-delivery all =
+      ap₂ (λ (ss p : List ℕ). bytes32 (length ss) ++ (bytes32 (8 + length p) ++ p)) same-sheets (same-parts all)
+
+  answer-faulty : (room : ℕ) → ltb (firstFaulty grants m b) sheets ≡ true → answer grants m b room ≡ answer grants′ m b′ room
+  unfolding answer
+  answer-faulty room t =
+      let found = ltb-true _ _ t in
+      let t′ : ltb (firstFaulty grants′ m b′) sheets ≡ true = ap (λ (n : ℕ). ltb n sheets) (sym same-first) ∙ t in
+      let fault : entryFault b (firstFaulty grants′ m b′) ≡ entryFault b′ (firstFaulty grants′ m b′) =
+      ap (entryFault b) (sym same-first) ∙ same-fault (firstFaulty grants m b) found (first-granted found) ∙ ap (entryFault b′) same-first in
+      simp (same-store, same-first, t′, fault)
+
+  answer-sound : (room : ℕ) → ltb (firstFaulty grants m b) sheets ≡ false → answer grants m b room ≡ answer grants′ m b′ room
+  unfolding answer
+  answer-sound room f =
+      let long : length (parts b (grantedSheets grants m)) ≡ length (parts b′ (grantedSheets grants′ m)) = ap length (same-parts (through f)) in
+      let fault : ltb (firstFaulty grants′ m b′) sheets ≡ false = ap (λ (n : ℕ). ltb n sheets) (sym same-first) ∙ f in
+      simp (same-store, same-first, fault, long)
+
+  -- The answer depends on nothing else.
+  pub same-answer : (room : ℕ) → answer grants m b room ≡ answer grants′ m b′ room
+  same-answer room = ⊎-elim (answer-faulty room) (answer-sound room) (either (ltb (firstFaulty grants m b) sheets))
+
+  -- Nor does any byte of the buffer.
+  pub same-buffer : (out : List ℕ) → bufferAfter grants m b out ≡ bufferAfter grants′ m b′ out
+  same-buffer out = ⊎-elim
+      (λ (t : ltb (firstFaulty grants m b) sheets ≡ true).
+      faulty-keeps grants m b (length out) t (deliveryOf b (grantedSheets grants m)) out
+      ∙ sym (faulty-keeps grants′ m b′ (length out) (ap (λ (n : ℕ). ltb n sheets) (sym same-first) ∙ t) (deliveryOf b′ (grantedSheets grants′ m)) out))
+      (λ (f : ltb (firstFaulty grants m b) sheets ≡ false).
+      ap₂ (λ (a : Delivery) (d : List ℕ). written a d out) (same-answer (length out)) (same-delivery (through f)))
+      (either (ltb (firstFaulty grants m b) sheets))

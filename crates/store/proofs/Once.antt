@@ -1,0 +1,15 @@
+-- Two answers that meet the promise of a delivery are equal, and so are the buffers that they leave. Assumes nothing.
+use mathlib.Core.Path.{_≡_, sym, _∙_}
+use mathlib.Core.List.{List}
+use Prim.Native.Nat.{ℕ}
+use lib.ListN.{length}
+use Rattle.store.specs.declared.Delivery.{Delivery}
+use Rattle.store.specs.Answer.{answer, bufferAfter}
+
+module _ (grants : List ℕ) (m : ℕ) (b out : List ℕ) where
+  -- what the promise says of an answer and of the buffer after it
+  abbrev pub Promised : Delivery → List ℕ → Type 0
+  Promised r after = (r ≡ answer grants m b (length out)) × (after ≡ bufferAfter grants m b out)
+
+  pub once : (r r′ : Delivery) (after after′ : List ℕ) → Promised r after → Promised r′ after′ → (r ≡ r′) × (after ≡ after′)
+  once r r′ after after′ p p′ = (p .0 ∙ sym (p′ .0), p .1 ∙ sym (p′ .1))

@@ -1,0 +1,10 @@
+pub mod Agree
+pub mod Answer
+pub mod Checked
+pub mod Delivery
+pub mod Entry
+pub mod Fault
+pub mod Granted
+pub mod Listed
+pub mod Ready
+pub mod Store

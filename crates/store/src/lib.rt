@@ -1,0 +1,40 @@
+// Deliveries: the granted sheets of a store, written to a lent buffer.
+mod check;
+mod grant;
+mod table;
+mod write;
+
+ghost use mathlib.Core.Path.{_≡_};
+ghost use lib.ListN.{length};
+ghost use Rattle.store.specs.Answer.{answer, bufferAfter};
+
+// A delivery's answer: its total length; or a refusal's number with its place, the sheet for 32 and 33 and else 0.
+pub enum Delivery {
+    Delivered(u32),
+    Refused(u32, u32),
+}
+
+// Delivers from `store` the sheets that `grants` grants the model: sheet s where bit `model` of grants[s] is set.
+pub fn deliver(grants: &[u64; 256], model: u32, store: &[u8], out: &mut [u8]) -> Delivery
+    ensures answered { λ r. ⌜ r ≡ answer (now (grants .entry)) model (now (store .entry)) (length (now (out .entry))) ⌝ }
+    ensures left { λ _. ⌜ now (out .exit) ≡ bufferAfter (now (grants .entry)) model (now (store .entry)) (now (out .entry)) ⌝ }
+{
+    if model >= rules::MODELS {
+        return Delivery::Refused(rules::BAD_NUMBER, 0);
+    }
+    if !table::good_store(store) {
+        return Delivery::Refused(rules::BAD_STORE, 0);
+    }
+    let seen = check::check(grants, model, store);
+    let stop = seen.stop;
+    if stop < rules::SHEETS {
+        return Delivery::Refused(table::entry_fault(store, stop), stop);
+    }
+    let total = seen.total;
+    if (out.len() as u64) < total {
+        return Delivery::Refused(rules::DELIVERY_TOO_LONG, 0);
+    }
+    let length = total as u32;
+    write::write_delivery(grants, model, store, seen.count, length, out);
+    Delivery::Delivered(length)
+}
