@@ -1,4 +1,5 @@
 -- Laws of books: what the proofs of this crate's functions, and other crates, cite.
+pub mod Carriers
 pub mod Jump
 pub mod Keep
 pub mod Part
