@@ -1,0 +1,3 @@
+-- The three demands: One.antt, Two.antt, Three.antt.
+pub mod Seen
+pub mod Three

@@ -1,0 +1,4 @@
+pub mod Alike
+pub mod Calls
+pub mod Lines
+pub mod Refusals
