@@ -1,3 +1,4 @@
 -- The three demands: One.antt, Two.antt, Three.antt.
+pub mod Lines
 pub mod Seen
 pub mod Three

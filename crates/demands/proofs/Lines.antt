@@ -53,6 +53,7 @@ met-or-none (l ∷ lines) = ⊎-elim
         before : (j : ℕ) → j < suc i → getD (l ∷ lines) j unmet .met ≡ false
         before zero h = f
         before (suc j) h = m .earlier j (omega arith)
+
     still : (l : Line) (lines : List Line) → l .met ≡ false → NoneMet lines → NoneMet (l ∷ lines)
     still l lines f n zero h = f
     still l lines f n (suc i) h = n i (omega arith)
@@ -89,53 +90,53 @@ module _
     (meets : (k : ℕ) → any (f k) ≡ p k)
     (tells : (k : ℕ) → p k ≡ true → firstMet (f k) ≡ r k)
   where
-  record Below (n : ℕ) : Type 0 where
-    met : any (eachBelow f n) ≡ ltb (first p n) n
-    told : first p n < n → firstMet (eachBelow f n) ≡ r (first p n)
+    record Below (n : ℕ) : Type 0 where
+      met : any (eachBelow f n) ≡ ltb (first p n) n
+      told : first p n < n → firstMet (eachBelow f n) ≡ r (first p n)
 
-  below-found : (n : ℕ) → Below n → ltb (first p n) n ≡ true → Below (suc n)
-  unfolding eachBelow
-  below-found n b t =
-      let e = step-found p n (ltb-true _ _ t) in
-      let h = ltb-true _ _ t in
-      record {
-        met = any-append (eachBelow f n) (f n) ∙ simp (b .met, t) (sym (lt-ltb (first p (suc n)) (suc n) (omega arith)));
-        told = λ l. first-append (eachBelow f n) (f n) ∙ simp (b .met, t) (b .told h ∙ ap r (sym e));
-      }
+    below-found : (n : ℕ) → Below n → ltb (first p n) n ≡ true → Below (suc n)
+    unfolding eachBelow
+    below-found n b t =
+        let h : first p n < n = ltb-true _ _ t in
+        let e = step-found p n h in
+        record {
+          met = any-append (eachBelow f n) (f n) ∙ simp (b .met, t) (sym (lt-ltb (first p (suc n)) (suc n) (omega arith)));
+          told = λ l. first-append (eachBelow f n) (f n) ∙ simp (b .met, t) (b .told h ∙ ap r (sym e));
+        }
 
-  below-now : (n : ℕ) → Below n → ltb (first p n) n ≡ false → p n ≡ true → Below (suc n)
-  unfolding eachBelow
-  below-now n b o y =
-      let e = step-now p n (ltb-false _ _ o) y in
-      record {
-        met = any-append (eachBelow f n) (f n) ∙ simp (b .met, o, meets n, y) (sym (lt-ltb (first p (suc n)) (suc n) (omega arith)));
-        told = λ l. first-append (eachBelow f n) (f n) ∙ simp (b .met, o) (tells n y ∙ ap r (sym e));
-      }
+    below-now : (n : ℕ) → Below n → ltb (first p n) n ≡ false → p n ≡ true → Below (suc n)
+    unfolding eachBelow
+    below-now n b o y =
+        let e = step-now p n (ltb-false _ _ o) y in
+        record {
+          met = any-append (eachBelow f n) (f n) ∙ simp (b .met, o, meets n, y) (sym (lt-ltb (first p (suc n)) (suc n) (omega arith)));
+          told = λ l. first-append (eachBelow f n) (f n) ∙ simp (b .met, o) (tells n y ∙ ap r (sym e));
+        }
 
-  below-on : (n : ℕ) → Below n → ltb (first p n) n ≡ false → p n ≡ false → Below (suc n)
-  unfolding eachBelow
-  below-on n b o z =
-      let e = step-on p n (ltb-false _ _ o) z in
-      record {
-        met = any-append (eachBelow f n) (f n) ∙ simp (b .met, o, meets n, z) (sym (le-ltb (first p (suc n)) (suc n) (omega arith)));
-        told = λ l. absurd (omega arith);
-      }
+    below-on : (n : ℕ) → Below n → ltb (first p n) n ≡ false → p n ≡ false → Below (suc n)
+    unfolding eachBelow
+    below-on n b o z =
+        let e = step-on p n (ltb-false _ _ o) z in
+        record {
+          met = any-append (eachBelow f n) (f n) ∙ simp (b .met, o, meets n, z) (sym (le-ltb (first p (suc n)) (suc n) (omega arith)));
+          told = λ l. absurd (omega arith);
+        }
 
-  below : (n : ℕ) → Below n
-  unfolding eachBelow any
-  below zero = record { met = sym (le-ltb (first p 0) 0 (omega arith)); told = λ h. absurd (omega arith) }
-  below (suc n) = ⊎-elim
-      (λ t. below-found n (below n) t)
-      (λ o. ⊎-elim (λ y. below-now n (below n) o y) (λ z. below-on n (below n) o z) (either (p n)))
-      (either (ltb (first p n) n))
+    below : (n : ℕ) → Below n
+    unfolding eachBelow any
+    below zero = record { met = sym (le-ltb (first p 0) 0 (omega arith)); told = λ h. absurd (omega arith) }
+    below (suc n) = ⊎-elim
+        (λ t. below-found n (below n) t)
+        (λ o. ⊎-elim (λ y. below-now n (below n) o y) (λ z. below-on n (below n) o z) (either (p n)))
+        (either (ltb (first p n) n))
 
-  -- the first number with a line met, and then what follows
-  pub first-each : (n : ℕ) (rest : List Line) → firstMet (eachBelow f n ++ rest) ≡ cond (ltb (first p n) n) (r (first p n)) (firstMet rest)
-  first-each n rest = first-append (eachBelow f n) rest ∙ ⊎-elim
-      (λ (t : ltb (first p n) n ≡ true). simp (below n .met, t) (below n .told (ltb-true _ _ t)))
-      (λ (o : ltb (first p n) n ≡ false). simp (below n .met, o))
-      (either (ltb (first p n) n))
+    -- the first number with a line met, and then what follows
+    pub first-each : (n : ℕ) (rest : List Line) → firstMet (eachBelow f n ++ rest) ≡ cond (ltb (first p n) n) (r (first p n)) (firstMet rest)
+    first-each n rest = first-append (eachBelow f n) rest ∙ ⊎-elim
+        (λ (t : ltb (first p n) n ≡ true). simp (below n .met, t) (below n .told (ltb-true _ _ t)))
+        (λ (o : ltb (first p n) n ≡ false). simp (below n .met, o))
+        (either (ltb (first p n) n))
 
-  pub first-each-last : (n : ℕ) → firstMet (eachBelow f n) ≡ cond (ltb (first p n) n) (r (first p n)) none
-  unfolding firstMet
-  first-each-last n = ap firstMet (sym (append-nil (eachBelow f n))) ∙ first-each n []
+    pub first-each-last : (n : ℕ) → firstMet (eachBelow f n) ≡ cond (ltb (first p n) n) (r (first p n)) none
+    unfolding firstMet
+    first-each-last n = ap firstMet (sym (append-nil (eachBelow f n))) ∙ first-each n []

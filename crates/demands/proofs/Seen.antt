@@ -11,7 +11,7 @@ use borrow.Author.Tests.{ltb-true, ltb-false, eqb-true, eqb-false, ne-eqb}
 use Rattle.base.specs.Table.{table}
 use Rattle.base.proofs.First.{either}
 use Rattle.base.proofs.Table.{getD-table}
-use Rattle.rules.specs.Kinds.{SA, LA, SR, LR}
+use Rattle.rules.specs.Kinds.{SA, LA, SR, LR, isAdd, isRemove}
 use Rattle.rules.specs.Ranges.{sheets, ticks}
 use Rattle.rules.specs.Refusals.{noTickLeft}
 use Rattle.bits.specs.Bit.{bit}
@@ -57,8 +57,9 @@ not-for-sheet kind t =
 -- what is neither a sheet's kind nor a model's is above 7
 no-kind : (kind : ℕ) → forSheet kind ≡ false → ofModel kind ≡ false → LR < kind
 no-kind kind f o =
-    let adds = neither _ _ (neither _ _ f .0) in
-    let removes = neither _ _ (neither _ _ f .1) in
+    let p = neither (isAdd kind) (isRemove kind) f in
+    let adds = neither (eqb kind SA) (eqb kind LA) (p .0) in
+    let removes = neither (eqb kind SR) (eqb kind LR) (p .1) in
     let sa = eqb-false kind SA (adds .0) in
     let la = eqb-false kind LA (adds .1) in
     let sr = eqb-false kind SR (removes .0) in
@@ -77,7 +78,7 @@ module _ (m : ℕ) where
   other-request : (g : Group) (kind n : ℕ) → shared m (request kind n) ≡ false → view m (requestAnswer g kind n .group) ≡ view m g
   unfolding shared
   other-request g kind n f =
-      let p = neither _ _ f in
+      let p = neither (forSheet kind) (eqb n m) f in
       ⊎-elim
       (λ (t : ofModel kind ≡ true). other-model m g kind n t (λ e. eqb-false n m (p .1) (sym e)))
       (λ (o : ofModel kind ≡ false).
