@@ -1,4 +1,8 @@
 -- The three demands: One.antt, Two.antt, Three.antt.
 pub mod Lines
+pub mod One
+pub mod Refused
+pub mod RefusedDelivery
+pub mod RefusedJudge
 pub mod Seen
 pub mod Three
