@@ -1,6 +1,7 @@
 -- The three demands: One.antt, Two.antt, Three.antt.
 pub mod Lines
 pub mod Moving
+pub mod Once
 pub mod One
 pub mod Parts
 pub mod Refused
