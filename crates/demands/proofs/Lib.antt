@@ -1,4 +1,6 @@
--- The three demands: One.antt, Two.antt, Three.antt.
+-- The three demands: One.antt, Two.antt and Three.antt state them. Once.antt: a promise determines its answer. The others stand behind these.
+pub mod Alike
+pub mod Gates
 pub mod Lines
 pub mod Moving
 pub mod Once

@@ -63,6 +63,10 @@ moving (read m s ∷ calls) = moving calls
 moving (count s ∷ calls) = moving calls
 moving (deliver m store out ∷ calls) = moving calls
 
--- the words of the events that a run from fresh has accepted, in the order of their acceptance
+-- The words of the events that have been accepted after these calls, in the order of their acceptance: on a group that had accepted some before,
+-- and on a fresh one, which had none.
+abbrev pub acceptedFrom : history.Reached → List Call → List ℕ
+acceptedFrom before calls = history.run (moving calls) before .events
+
 abbrev pub accepted : ℕ → List Call → List ℕ
-accepted number calls = history.reached number (moving calls) .events
+accepted number calls = acceptedFrom (history.fresh number) calls
