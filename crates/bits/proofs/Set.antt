@@ -60,7 +60,7 @@ words-with ws i h l k = ⊎-elim
 
 -- ---- the empty set
 
-getD-none : (n k : ℕ) → getD (none n) k 0 ≡ 0
+pub getD-none : (n k : ℕ) → getD (none n) k 0 ≡ 0
 getD-none zero k = refl
 getD-none (suc n) zero = refl
 getD-none (suc n) (suc k) = getD-none n k

@@ -2,7 +2,6 @@
 ghost use mathlib.Core.Path.{_≡_};
 ghost use lib.ListN.{length};
 ghost use Rattle.store.specs.Answer.{answer, bufferAfter};
-
 use group::Group;
 use store::Delivery;
 

@@ -2,7 +2,7 @@
 use mathlib.Core.Path.{_≡_, refl, ap, _∙_}
 use mathlib.Core.Bool.{Bool, true, false, not, cond, _&&_, _||_}
 use mathlib.Core.Logic.{⊎-elim}
-use Prim.Native.Nat.{ℕ, zero, suc, _+_, _/_, _^_, _≤_, _<_}
+use Prim.Native.Nat.{ℕ, _+_, _/_, _^_, _≤_, _<_}
 use native.Mathlib.Omega.{arith}
 use lib.Dec.{leb}
 use lib.Bits.{bitOr, or-lt}
@@ -16,7 +16,7 @@ use Rattle.rules.specs.Refusals.{noTickLeft}
 use Rattle.bits.specs.Bit.{width, bit}
 use Rattle.bits.specs.Set.{has, Words}
 use Rattle.bits.proofs.Bit.{bit-zero, bit-or, bit-and-not, bit-after}
-use Rattle.bits.proofs.Set.{has-none, has-either, has-after, words-either}
+use Rattle.bits.proofs.Set.{has-either, has-after, words-either}
 use Rattle.group.specs.Carrier.{sheetWords}
 use Rattle.group.specs.Close.{closedMembers, removes, adds, closedAdded, closedLiberal, closedWord, closedWords, closedGroup, closeAnswer}
 use Rattle.group.specs.Fits.{Fits}
@@ -87,19 +87,6 @@ module _ (g : Group) (z : Fits g) where
       ap (λ (w : ℕ). bit w m) (getD-table sheets _ s 0 h)
       ∙ bit-closedWord (getD (g .grants) s 0) (has (g .sr) s) (has (adds g) s) (has (closedLiberal g) s) (closedMembers g) (g .sl) (g .lj) m (z .grants .words s) (z .sl)
       ∙ simp (has-either sheetWords (g .sa) (g .la) s (in-words s h))
-
--- no mark is left
-pub closed-mark : (g : Group) (k i : ℕ) → k ≤ LR → mark (closedGroup g) k i ≡ false
-unfolding closedGroup
-closed-mark g zero i l = bit-zero i
-closed-mark g (suc zero) i l = bit-zero i
-closed-mark g (suc (suc zero)) i l = bit-zero i
-closed-mark g (suc (suc (suc zero))) i l = bit-zero i
-closed-mark g (suc (suc (suc (suc zero)))) i l = has-none sheetWords i
-closed-mark g (suc (suc (suc (suc (suc zero))))) i l = has-none sheetWords i
-closed-mark g (suc (suc (suc (suc (suc (suc zero)))))) i l = has-none sheetWords i
-closed-mark g (suc (suc (suc (suc (suc (suc (suc zero))))))) i l = has-none sheetWords i
-closed-mark g (suc (suc (suc (suc (suc (suc (suc (suc k)))))))) i l = absurd (omega arith)
 
 pub closed-number : (g : Group) → closedGroup g .number ≡ g .number
 unfolding closedGroup

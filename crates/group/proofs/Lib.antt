@@ -1,8 +1,11 @@
 -- Laws that the proofs of other crates cite.
 pub mod Accepted
 pub mod Carrier
+pub mod Clear
 pub mod Close
+pub mod Event
 pub mod Fits
+pub mod Fresh
 pub mod Held
 pub mod Cases
 pub mod Lent

@@ -3,29 +3,28 @@ use mathlib.Core.Path.{_≡_, refl, sym, ap, ap₂, _∙_}
 use mathlib.Core.Bool.{Bool, true, false, not, _&&_, cond}
 use mathlib.Core.List.{List, [], _∷_, _++_}
 use mathlib.Core.Logic.{⊎-elim}
-use Prim.Native.Nat.{ℕ, zero, suc, _+_, _≤_, _<_}
+use Prim.Native.Nat.{ℕ, zero, suc, _+_, _<_}
 use native.Mathlib.Omega.{arith}
-use borrow.Author.Tests.{ltb-true, ltb-false, eqb-true}
+use borrow.Author.Tests.{ltb-true, ltb-false}
 use lib.Dec.{leb, ltb, eqb}
-use lib.ListN.{length, getD, take}
+use lib.ListN.{length, getD}
 use Rattle.base.specs.First.{first}
 use Rattle.base.proofs.First.{either, first-le, first-there}
 use Rattle.rules.specs.Ranges.{models, sheets}
-use Rattle.rules.specs.Refusals.{notInStore, badEntry, badNumber, badStore, deliveryTooLong}
+use Rattle.rules.specs.Refusals.{notInStore, badEntry}
 use Rattle.wire.specs.Word.{le32, bytes32}
 use Rattle.wire.proofs.Word.{le32-take}
 use Rattle.store.specs.declared.Delivery.{Delivery}
-use Rattle.store.specs.declared.Delivery.the-variants.{Delivered, Refused}
-use Rattle.store.specs.Store.{totalLength, sheetCount, bytesStart, goodStore}
-use Rattle.store.specs.Entry.{offset, sheetLength, goodEntry, entryFault}
+use Rattle.store.specs.Store.{totalLength, sheetCount, goodStore}
+use Rattle.store.specs.Entry.{goodEntry, entryFault}
 use Rattle.store.specs.Granted.{granted, grantedBelow}
 use Rattle.store.specs.Fault.{faulty, firstFaulty}
-use Rattle.store.specs.Delivery.{sheetBytes, part, parts, deliveryLength, deliveryOf, grantedSheets}
+use Rattle.store.specs.Delivery.{part, parts, deliveryOf, grantedSheets}
 use Rattle.store.specs.Answer.{answer, written, bufferAfter}
 use Rattle.store.specs.Agree.{Agree}
 use Rattle.store.proofs.Store.{both}
 use Rattle.store.proofs.Entry.{fault-missing, sound}
-use Rattle.store.proofs.Fault.{faulty-ungranted, fault-free}
+use Rattle.store.proofs.Fault.{fault-free}
 use Rattle.store.proofs.Listed.{granted-exactly}
 
 -- tests that agree below n find the same first place

@@ -7,6 +7,7 @@ pub mod Filled
 pub mod Granted
 pub mod Head
 pub mod Listed
+pub mod Longest
 pub mod Once
 pub mod Parts
 pub mod Store

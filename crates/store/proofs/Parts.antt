@@ -1,16 +1,15 @@
 -- The parts of a delivery: their lengths, and one part more. Assumes nothing.
-use mathlib.Core.Path.{_≡_, refl, sym, ap, _∙_}
-use mathlib.Core.Bool.{Bool, true, false}
+use mathlib.Core.Path.{_≡_, refl, ap}
+use mathlib.Core.Bool.{true, false}
 use mathlib.Core.List.{List, [], _∷_, _++_, append-nil, append-assoc}
 use mathlib.Core.Logic.{⊎-elim}
 use Prim.Native.Nat.{ℕ, zero, suc, _+_, _≤_, _<_}
 use native.Mathlib.Nat.{eq-or-lt-of-le}
 use native.Mathlib.Numerals.{add-one}
 use native.Mathlib.Omega.{arith}
-use lib.ListN.{length, take, drop, length-append, length-drop}
+use lib.ListN.{length, drop, length-append, length-drop}
 use lib.Seq.{length-take-le}
 use Rattle.base.proofs.First.{either}
-use Rattle.wire.specs.Word.{bytes32}
 use Rattle.wire.proofs.Word.{length-bytes32}
 use Rattle.store.specs.Entry.{offset, sheetLength}
 use Rattle.store.specs.Granted.{granted, grantedBelow}

@@ -1,6 +1,6 @@
 -- What a delivery answers, and what it leaves in the buffer.
 use Prim.Native.Nat.{ℕ}
-use mathlib.Core.Bool.{Bool, not, cond}
+use mathlib.Core.Bool.{not, cond}
 use mathlib.Core.List.{List, _++_}
 use lib.Dec.{leb, ltb}
 use lib.ListN.{length, drop}
@@ -13,7 +13,8 @@ use Rattle.store.specs.Entry.{entryFault}
 use Rattle.store.specs.Fault.{firstFaulty}
 use Rattle.store.specs.Delivery.{grantedSheets, deliveryLength, deliveryOf}
 
--- Order: delivery 2, 31, then granted sheets by rising number 32, 33, then 34. 32 and 33 name the sheet. Its answer is the total length.
+-- Order: delivery 2, 31, then granted sheets by rising number 32, 33, then 34. 32 and 33 name the sheet; the others have no place, which is 0.
+-- A delivery's answer is its total length.
 unfoldable pub answer : List ℕ → ℕ → List ℕ → ℕ → Delivery
 answer grants m b room =
     cond (leb models m) (Refused badNumber 0)

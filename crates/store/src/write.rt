@@ -8,16 +8,6 @@ ghost use Rattle.store.specs.Entry.{offset, sheetLength};
 ghost use Rattle.store.specs.Ready.{Ready};
 ghost use Rattle.store.specs.Delivery.{part, parts, grantedSheets, deliveryLength, deliveryOf};
 
-// One plain forward loop, which the compiler makes a block copy.
-fn copy(from: &[u8], to: &mut [u8])
-    requires { ⌜ length (now to) ≡ length (now from) ⌝ }
-    ensures { λ _. ⌜ now (to .exit) ≡ now (from .entry) ⌝ }
-{
-    for i in 0..from.len() {
-        to[i] = from[i];
-    }
-}
-
 // Writes a sheet's number, length and bytes from `at` on, and answers where the next part goes.
 fn write_part(store: &[u8], sheet: u32, out: &mut [u8], at: usize) -> usize
     requires { ⌜ (16 + 8 * sheet ≤ length (now store)) × (offset (now store) sheet + sheetLength (now store) sheet ≤ length (now store)) × (at + (8 + sheetLength (now store) sheet) ≤ length (now out)) ⌝ }
@@ -30,7 +20,7 @@ fn write_part(store: &[u8], sheet: u32, out: &mut [u8], at: usize) -> usize
     wire::write32(&mut *out, at + 4, length as u32);
     let to = at + 8;
     let next = to + length as usize;
-    copy(&store[from..end], &mut out[to..next]);
+    wire::copy(&store[from..end], &mut out[to..next]);
     next
 }
 

@@ -1,14 +1,14 @@
 -- A word and its bytes are one: what is written is read, a word has its bytes back, bytes have their word back. Assumes nothing.
 use mathlib.Core.Path.{_≡_, refl, sym, ap, _∙_}
 use mathlib.Core.List.{List, [], _∷_, _++_}
-use mathlib.Core.Logic.{_⊎_, inl, inr, ⊎-elim}
+use mathlib.Core.Logic.{_⊎_, ⊎-elim}
 use Prim.Native.Nat.{ℕ, zero, suc, _+_, _*_, _/_, _%_, _^_, _≤_, _<_}
 use native.Mathlib.Nat.{add-zero, add-assoc}
 use native.Mathlib.Omega.{arith}
-use lib.ListN.{length, getD, take, drop}
+use lib.ListN.{length, take, drop}
 use lib.Seq.{getD-drop, getD-take}
 use Rattle.wire.specs.Word.{le32, bytes32, AllBytes}
-use Rattle.wire.specs.Put.{put, put32}
+use Rattle.wire.specs.Put.{put32}
 use Rattle.wire.proofs.Put.{length-put, drop-put, put-before, put-behind}
 
 pub length-bytes32 : (x : ℕ) → length (bytes32 x) ≡ 4

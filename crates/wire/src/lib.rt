@@ -44,3 +44,13 @@ pub fn decode(b: &[u8], out: &mut [u32]) -> usize
     }
     n
 }
+
+// Copies bytes: one plain forward loop, which the compiler makes a block copy.
+pub fn copy(from: &[u8], to: &mut [u8])
+    requires { ⌜ length (now to) ≡ length (now from) ⌝ }
+    ensures { λ _. ⌜ now (to .exit) ≡ now (from .entry) ⌝ }
+{
+    for i in 0..from.len() {
+        to[i] = from[i];
+    }
+}

@@ -1,13 +1,12 @@
 -- `store::deliver` meets its contract: each return is one case of the answer, in the definition's order. Assumes nothing.
 use mathlib.Core.Path.{_≡_, sym, ap, ap₂, _∙_}
-use mathlib.Core.Bool.{true, false}
+use mathlib.Core.Bool.{true}
 use mathlib.Core.List.{List}
 use Prim.Native.Nat.{ℕ, _≤_, _<_}
 use native.Mathlib.Omega.{arith}
-use lib.ListN.{length, drop}
+use lib.ListN.{length}
 use borrow.Author.Tests.{not-true, not-false}
 use Rattle.store.specs.declared.check.Checked.{Checked}
-use Rattle.store.specs.declared.Delivery.{Delivery}
 use Rattle.store.specs.declared.Delivery.the-variants.{Delivered, Refused}
 use Rattle.store.specs.Store.{goodStore}
 use Rattle.store.specs.Entry.{entryFault}
@@ -15,7 +14,7 @@ use Rattle.base.proofs.First.{first-le}
 use Rattle.rules.specs.Ranges.{sheets}
 use Rattle.store.specs.Granted.{grantedBelow}
 use Rattle.store.specs.Fault.{faulty, firstFaulty}
-use Rattle.store.specs.Delivery.{grantedSheets, deliveryLength, deliveryOf}
+use Rattle.store.specs.Delivery.{grantedSheets, deliveryLength}
 use Rattle.store.specs.Checked.{checked}
 use Rattle.store.proofs.Answer.{promised, answer-number, answer-store, answer-sheet, answer-long, answer-delivered}
 use borrow.Author.Needs.{needs}

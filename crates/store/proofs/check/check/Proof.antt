@@ -1,9 +1,9 @@
 -- `store::check::check` meets its contract. Its invariant is `Sums`: the sums of the granted sheets below the sheet at hand, none of which is faulty.
 -- Assumes nothing.
-use mathlib.Core.Path.{_≡_, refl, sym, ap, ap₂, _∙_}
+use mathlib.Core.Path.{_≡_, sym, ap, ap₂, _∙_}
 use mathlib.Core.Bool.{true, false}
 use mathlib.Core.List.{List}
-use Prim.Native.Nat.{ℕ, _+_, _-_, _≤_}
+use Prim.Native.Nat.{ℕ, _-_, _≤_}
 use native.Mathlib.Omega.{arith}
 use borrow.Author.Needs.{needs}
 use borrow.Author.Tests.{not-true, not-false}
@@ -13,7 +13,7 @@ use Rattle.store.specs.Granted.{granted}
 use Rattle.store.specs.Fault.{firstFaulty}
 use Rattle.store.specs.Checked.{checkedTo, checked}
 use Rattle.store.proofs.Store.{Good, good}
-use Rattle.store.proofs.Entry.{Sound, sound}
+use Rattle.store.proofs.Entry.{sound}
 use Rattle.store.proofs.Sums.{Sums, sums-none, sums-out, sums-in, sums-stop, sums-end}
 use Rattle.store.proofs.check.check.Statement.{statement}
 use Rattle.store.proofs.check.check.Tie as tie

@@ -1,14 +1,14 @@
--- `store::write::copy` meets its contract. What is copied so far stands in front of what is left to overwrite. Assumes nothing.
-use mathlib.Core.Path.{_≡_, refl, sym, ap, _∙_}
-use mathlib.Core.List.{List, [], _∷_, _++_, append-nil}
-use Prim.Native.Nat.{ℕ, suc, _+_, _-_, _≤_, _<_}
+-- `wire::copy` meets its contract. What is copied so far stands in front of what is left to overwrite. Assumes nothing.
+use mathlib.Core.Path.{_≡_, refl, ap, _∙_}
+use mathlib.Core.List.{List, _++_, append-nil}
+use Prim.Native.Nat.{ℕ, _+_, _-_, _≤_, _<_}
 use native.Mathlib.Numerals.{add-one}
 use native.Mathlib.Omega.{arith}
 use borrow.Author.Needs.{needs}
 use lib.ListN.{length, getD, take, drop, set, length-append, length-drop, drop-of-length-le}
 use lib.Seq.{length-take-le, take-suc, take-all, drop-cons, set-at, append-snoc}
-use Rattle.store.proofs.write.copy.Statement.{statement}
-use Rattle.store.proofs.write.copy.Tie as tie
+use Rattle.wire.proofs.copy.Statement.{statement}
+use Rattle.wire.proofs.copy.Tie as tie
 
 abbrev copied : List ℕ → List ℕ → ℕ → List ℕ
 copied from to i = take i from ++ drop i to
