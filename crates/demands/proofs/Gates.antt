@@ -1,8 +1,8 @@
 -- Every group that calls reach is gated by the formula over the events that it accepted, and so is a station's mask. Assumes nothing.
-use mathlib.Core.Path.{_≡_, refl, sym, ap, _∙_}
+use mathlib.Core.Path.{_≡_, refl, sym, ap, _∙_, subst}
 use mathlib.Core.Bool.{true}
 use mathlib.Core.Logic.{_↔_}
-use mathlib.Core.List.{List}
+use mathlib.Core.List.{List, [], _++_}
 use Prim.Native.Nat.{ℕ, _≤_, _<_}
 use native.Mathlib.Omega.{arith}
 use lib.ListN.{length, getD}
@@ -15,10 +15,18 @@ use Rattle.group.proofs.Request.{request-code}
 use Rattle.station.specs.Mask.{maskOf, listRefusal, answerWith, maskAnswer}
 use Rattle.station.proofs.Positions.{mask-bit, grants-granted}
 use Rattle.store.specs.Granted.{granted as grantedBy}
-use Rattle.history.specs.Run.{Call, reached}
+use Rattle.history.specs.Run.{Reached, run, reached}
+use Rattle.history.specs.Run as history
 use Rattle.history.proofs.Answers.{read-granted}
 use Rattle.history.proofs.Gate as gate
+use Rattle.history.proofs.Runs.{reached-append}
+use Rattle.book.specs.Calls.{bookCalls}
+use Rattle.book.specs.Read.{ticksIn, numberIn, recordsIn, bookRead}
+use Rattle.book.specs.declared.BookRead.{BookRead}
+use Rattle.book.proofs.Accepted.{read-code, read-formed, good-read}
+use Rattle.demands.specs.Calls.{Call, groupAfter, fresh, moving, acceptedFrom, accepted, bookReached}
 use Rattle.demands.specs.Gated.{Granting, Gated}
+use Rattle.demands.proofs.Moving.{run-moving}
 use Rattle.demands.proofs.Parts.{delivered-holds}
 
 -- the grants of a group as the delivery reads them
@@ -26,7 +34,7 @@ reads-grants : (g : Group) (m s : ℕ) → grantedBy (g .grants) m s ≡ granted
 unfolding granted grantedBy bit
 reads-grants g m s = refl
 
-pub reached-gated : (number : ℕ) (calls : List Call) → Gated (reached number calls .group) (reached number calls .events)
+pub reached-gated : (number : ℕ) (calls : List history.Call) → Gated (reached number calls .group) (reached number calls .events)
 reached-gated number calls =
     let says = gate.gate-is-formula number calls in
     record {
@@ -44,6 +52,27 @@ reached-gated number calls =
           let g = reached number calls .group in
           delivered-holds (g .grants) m _ (λ s b. (λ t. says m s l b .0 (sym (reads-grants g m s) ∙ t), λ x. reads-grants g m s ∙ says m s l b .1 x)) store out n e;
     }
+
+-- a run on a group that calls had reached before it
+pub run-gated : (number : ℕ) (before : List history.Call) (calls : List Call)
+    → Gated (groupAfter (reached number before .group) calls) (acceptedFrom (reached number before) calls)
+run-gated number before calls =
+    let whole : Reached = run (moving calls) (reached number before) in
+    let one : reached number (before ++ moving calls) ≡ whole = reached-append number before (moving calls) in
+    subst (λ (g : Group). Gated g (whole .events)) (sym (run-moving calls (reached number before)))
+    (subst (λ (r : Reached). Gated (r .group) (r .events)) one (reached-gated number (before ++ moving calls)))
+
+pub fresh-gated : (number : ℕ) (calls : List Call) → Gated (groupAfter (fresh number) calls) (accepted number calls)
+unfolding run
+fresh-gated number calls = run-gated number [] calls
+
+-- a run on the group that an accepted book was read into
+pub book-gated : (b list : List ℕ) (calls : List Call) → bookRead b (length list) .code ≡ 0
+    → Gated (groupAfter (bookRead b (length list) .group) calls) (acceptedFrom (bookReached b) calls)
+book-gated b list calls e =
+    let answer = good-read b list (read-code b (length list) e) (read-formed b (length list) e) in
+    subst (λ (r : BookRead). Gated (groupAfter (r .group) calls) (acceptedFrom (bookReached b) calls)) (sym answer)
+    (run-gated (numberIn b) (bookCalls (recordsIn b) (ticksIn b)) calls)
 
 -- Position i of a list, asked for a model and a sheet within the ranges; d is what stands past its end.
 module _ (gs : List Group) (d : Group) (m s i : ℕ) (few : length gs ≤ groups) (l : m < models) (b : s < sheets) (h : i < length gs) where

@@ -7,8 +7,10 @@ pub mod Once
 pub mod One
 pub mod Parts
 pub mod Refused
+pub mod RefusedBook
 pub mod RefusedDelivery
 pub mod RefusedJudge
 pub mod Seen
+pub mod Shared
 pub mod Three
 pub mod Two

@@ -3,7 +3,13 @@
 use mathlib.Core.Path.{_≡_, sym, _∙_}
 use mathlib.Core.List.{List}
 use Prim.Native.Nat.{ℕ}
+use lib.ListN.{length}
 use denote.Ref.{RefT}
+use Rattle.book.specs.Read.{bookRead, listRead}
+use Rattle.book.specs.Tick.{tickPart, tickStart, wordAt}
+use Rattle.book.specs.Write.{bookWritten, bufferWritten}
+use Rattle.book.specs.declared.BookRead.{BookRead}
+use Rattle.book.specs.declared.BookWritten.{BookWritten}
 use Rattle.event.specs.Word.{tickOf, kindOf, numberOf as carrierOf}
 use Rattle.formula.specs.Answer.{numberOf, valueOf}
 use Rattle.formula.specs.declared.Verdict.{Verdict}
@@ -47,6 +53,12 @@ pub record PromisesDetermine : Type 0 where
   pub evidence : (m s : RefT (List ℕ)) (now : ℕ) (r t : RefT (List ℕ)) → Meets m s now r → Meets m s now t → (r .now ≡ t .now) × (r .ptr ≡ t .ptr)
   -- a delivery, with its buffer
   pub delivery : (grants : List ℕ) (m : ℕ) (store out : List ℕ) → Once (Delivery × List ℕ) (λ r. Promised grants m store out (r .0) (r .1))
+  -- the book: reader with its word list, writer with its buffer, and the records of one tick: the same words at the same place
+  pub reader : (b list : List ℕ) → Once (BookRead × List ℕ) (λ r. (r .0 ≡ bookRead b (length list)) × (r .1 ≡ listRead b list))
+  pub writer : (T n : ℕ) (ws buffer : List ℕ)
+      → Once (BookWritten × List ℕ) (λ r. (r .0 ≡ bookWritten T n ws (length buffer)) × (r .1 ≡ bufferWritten T n ws buffer))
+  pub tick-part : (ws : RefT (List ℕ)) (t : ℕ)
+      → Once (List ℕ × (ℕ × ℕ)) (λ r. (r .0 ≡ tickPart (ws .now) t) × (r .1 ≡ wordAt ws (tickStart (ws .now) t)))
   -- strips: the first bad place, and a carrier's strip gathered into a list
   pub first-bad : (side : Side) (now : ℕ) (s : List ℕ) → Once ℕ (λ r. r ≡ firstBad side now s)
   pub gather : (words : List ℕ) (side : Side) (n : ℕ) (out : List ℕ) (at : ℕ)
@@ -79,6 +91,9 @@ promises-determine = record {
   judge-bytes = λ m s now. one (packed (judgedFrom m s now));
   evidence = one-evidence;
   delivery = λ grants m store out. two _ _;
+  reader = λ b list. two (bookRead b (length list)) (listRead b list);
+  writer = λ T n ws buffer. two (bookWritten T n ws (length buffer)) (bufferWritten T n ws buffer);
+  tick-part = λ ws t. two (tickPart (ws .now) t) (wordAt ws (tickStart (ws .now) t));
   first-bad = λ side now s. one (firstBad side now s);
   gather = λ words side n out at. two (gatheredEnd words side n out at) (gathered words side n out at);
   number = λ v. one (numberOf v);

@@ -22,6 +22,11 @@ shared m (read n s) = eqb n m
 shared m (count s) = false
 shared m (deliver n store out) = eqb n m
 
+-- the shared calls of a list, in their order
+unfoldable pub sharedIn : ℕ → List Call → List Call
+sharedIn m [] = []
+sharedIn m (c ∷ calls) = cond (shared m c) (c ∷ sharedIn m calls) (sharedIn m calls)
+
 -- "that model's answers, refusals and deliveries": the answers to the shared calls, in their order
 unfoldable pub answersOf : ℕ → Group → List Call → List Answer
 answersOf m g [] = []

@@ -1,13 +1,14 @@
 -- Document 01's table of refusals and its order, call by call: "request 1, 2, 3, 4, then 5 or 6; close 3; read and count of models 2; list 7, 2;
--- judge 10 to 14; .. delivery 2, 31, then granted sheets by rising number 32, 33, then 34. 32 and 33 name the sheet."
+-- judge 10 to 14; reader 20 to 23, 28, then record by record 24, 25, 26; writer 22, 27, then the records likewise; delivery 2, 31, then granted
+-- sheets by rising number 32, 33, then 34. 32 and 33 name the sheet."
 use mathlib.Core.Bool.{Bool, not, _&&_, _||_}
 use mathlib.Core.List.{List, [], _∷_, _++_}
 use Prim.Native.Nat.{ℕ}
 use lib.Dec.{eqb, ltb, leb}
-use lib.ListN.{length}
+use lib.ListN.{length, getD}
 use Rattle.rules.specs.Kinds.{LR}
-use Rattle.rules.specs.Ranges.{models, sheets, groups, ticks, events}
-use Rattle.rules.specs.Refusals.{badKind, badNumber, noTickLeft, secondEvent, alreadyIn, notIn, badList, badGroup, lateNow, longModel, longSheet, badModel, badSheet, badStore, notInStore, badEntry, deliveryTooLong}
+use Rattle.rules.specs.Ranges.{models, sheets, groups, ticks, events, bookHeader, longestBook}
+use Rattle.rules.specs.Refusals.{badKind, badNumber, noTickLeft, secondEvent, alreadyIn, notIn, badList, badGroup, lateNow, longModel, longSheet, badModel, badSheet, badLength, badTotal, badHeader, badCount, badRecord, notRising, illFormed, shortBuffer, shortList, badStore, notInStore, badEntry, deliveryTooLong}
 use Rattle.strip.specs.declared.Side.{Side}
 use Rattle.strip.specs.declared.Side.the-variants.{Model, Sheet}
 use Rattle.strip.specs.Good.{goodPlace}
@@ -23,6 +24,9 @@ use Rattle.store.specs.Granted.{granted}
 use Rattle.store.specs.Store.{sheetCount, goodStore}
 use Rattle.store.specs.declared.Delivery.{Delivery}
 use Rattle.store.specs.declared.Delivery.the-variants as delivery
+use Rattle.book.specs.Book.{lengthOf, beyond}
+use Rattle.book.specs.Read.{totalIn, ticksIn, countIn, offsetIn, numberIn, recordsIn}
+use Rattle.book.specs.Records.{outside, notGreater, carrierOf, lastOf, breaks}
 use Rattle.demands.specs.Lines.{Refusal, at, plain, none, Line, line, eachBelow}
 
 -- ---- the group
@@ -79,6 +83,30 @@ abbrev pub refusedVerdict : Verdict → Refusal
 refusedVerdict (verdict.Granted moment) = none
 refusedVerdict (verdict.Denied cause) = none
 refusedVerdict (verdict.Refused number place) = at number place
+
+-- ---- the book
+
+abbrev pub recordLines : ℕ → List ℕ → ℕ → List Line
+recordLines T ws i =
+    line (outside T (getD ws i 0)) (at badRecord i)
+    ∷ line (notGreater ws i) (at notRising i)
+    ∷ line (breaks (lastOf ws i (carrierOf (getD ws i 0))) (getD ws i 0)) (at illFormed i)
+    ∷ []
+
+abbrev pub readerLines : List ℕ → ℕ → List Line
+readerLines b room =
+    line (ltb (length b) bookHeader || ltb longestBook (length b)) (plain badLength)
+    ∷ line (not (eqb (totalIn b) (length b))) (plain badTotal)
+    ∷ line (beyond (ticksIn b) (numberIn b) (countIn b) || not (eqb (offsetIn b) bookHeader)) (plain badHeader)
+    ∷ line (not (eqb (lengthOf (countIn b)) (totalIn b))) (plain badCount)
+    ∷ line (ltb room (countIn b)) (plain shortList)
+    ∷ eachBelow (recordLines (ticksIn b) (recordsIn b)) (length (recordsIn b))
+
+abbrev pub writerLines : ℕ → ℕ → List ℕ → ℕ → List Line
+writerLines T number ws room =
+    line (beyond T number (length ws)) (plain badHeader)
+    ∷ line (ltb room (lengthOf (length ws))) (plain shortBuffer)
+    ∷ eachBelow (recordLines T ws) (length ws)
 
 -- ---- a delivery
 
