@@ -1,5 +1,6 @@
 -- The three demands: One.antt, Two.antt and Three.antt state them. Once.antt: a promise determines its answer. The others stand behind these.
 pub mod Alike
+pub mod Counted
 pub mod Gates
 pub mod Lines
 pub mod Moving

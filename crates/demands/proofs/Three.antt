@@ -4,8 +4,8 @@
 -- that model's answers, refusals and deliveries are equal."
 --
 -- `Alike` says when two lists of calls are such runs (specs/Alike.antt): with equal stores, whenever their shared calls are the same list
--- (`same-shared`, Shared.antt). A call may have any numbers, and may be refused. A gate that answers everybody alike would meet this statement: demand 2 (Two.antt) shuts it out,
--- over the same runs and the same grants. Assumes nothing.
+-- (`same-shared`, Shared.antt). A call may have any numbers, and may be refused. A gate that answers everybody alike would meet this statement:
+-- demand 2 (Two.antt) shuts it out, over the same runs and the same grants. Assumes nothing.
 use mathlib.Core.Path.{_≡_, refl}
 use mathlib.Core.List.{List}
 use Prim.Native.Nat.{ℕ}

@@ -27,6 +27,7 @@ use Rattle.book.specs.Write.{bookWritten, bufferWritten}
 use Rattle.book.proofs.Promise.{ReadBack, write-then-read, read-then-write}
 use Rattle.demands.specs.Calls.{Call, groupAfter, fresh, acceptedFrom, accepted, bookReached}
 use Rattle.demands.specs.Gated.{Granting, Gated}
+use Rattle.demands.proofs.Counted.{Stands, book-stands}
 use Rattle.demands.proofs.Gates.{fresh-gated, book-gated, mask-gated}
 
 pub record DemandTwo : Type 0 where
@@ -35,9 +36,10 @@ pub record DemandTwo : Type 0 where
       → (((x : Moment) × (judgedBy m s now ≡ Granted x)) ↔ Grant (historyOf m) (historyOf s) now) × Judged (historyOf m) (historyOf s) now (judgedBy m s now)
   -- from the running gate: of any group that calls have reached from fresh
   pub gate : (number : ℕ) (calls : List Call) → Gated (groupAfter (fresh number) calls) (accepted number calls)
-  -- the same after an accepted book, and any calls on the group that it was read into
+  -- the same from an accepted book, and any calls on the group that it was read into, which has the book's ticks closed and its number
   pub book : (b list : List ℕ) (calls : List Call) → bookRead b (length list) .code ≡ 0
       → Gated (groupAfter (bookRead b (length list) .group) calls) (acceptedFrom (bookReached b) calls)
+  pub book-ticks : (b list : List ℕ) → bookRead b (length list) .code ≡ 0 → Stands (bookRead b (length list) .group) (ticksIn b) (numberIn b)
   -- "A written event book reads back as the same events"
   pub written : (T number : ℕ) (ws buffer list : List ℕ) → bookWritten T number ws (length buffer) .code ≡ 0 → length ws ≤ length list
       → ReadBack T number ws (take (bookWritten T number ws (length buffer) .length) (bufferWritten T number ws buffer)) list
@@ -54,6 +56,7 @@ demand-two = record {
   judge = λ m s now a. (judge-grants m s now a, judge-means m s now a);
   gate = fresh-gated;
   book = book-gated;
+  book-ticks = book-stands;
   written = write-then-read;
   again = read-then-write;
   mask = λ gs m s i few l b h. mask-gated gs (fresh 0) m s i few l b h;
