@@ -22,7 +22,7 @@ use Rattle.group.specs.Fits.{Sized, Fits}
 use Rattle.group.specs.Fresh.{freshGroup}
 use Rattle.group.specs.Marks.{mark}
 use Rattle.group.specs.declared.Group.{Group}
-use Rattle.group.proofs.Close.{closed-mark}
+use Rattle.group.proofs.Clear.{closed-mark}
 use Rattle.group.proofs.Cases.{each-kind}
 
 -- no carrier has an event in the open tick

@@ -16,7 +16,7 @@ use Rattle.group.specs.Carrier.{entering}
 use Rattle.group.specs.Close.{closedGroup}
 use Rattle.group.specs.Fits.{Fits}
 use Rattle.group.specs.declared.Group.{Group}
-use Rattle.group.proofs.Close.{closed-mark}
+use Rattle.group.proofs.Clear.{closed-mark}
 use Rattle.history.specs.Strips.{stripOf}
 use Rattle.history.proofs.Keep.{strip-all}
 use Rattle.history.proofs.Sides.{comes, goes, even, even-suc, turn-is, turn-side, same-turn, inOn, in-closed}
