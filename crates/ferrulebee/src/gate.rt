@@ -68,3 +68,13 @@ pub extern "C" fn ferrulebee_models(group: Group, sheet: u32) -> CountAnswer
 {
     group.models(sheet)
 }
+
+// A request on a group lent and marked where it stands; a refusal leaves it as it was.
+#[no_mangle]
+pub extern "C" fn ferrulebee_request_at(g: &mut Group, kind: u32, number: u32) -> u32
+    ensures { λ r. ⌜ (r ≡ requestAnswer (now (g .entry)) kind number .code) × (now (g .exit) ≡ requestAnswer (now (g .entry)) kind number .group) ⌝ }
+{
+    let asked = (*g).request(kind, number);
+    *g = asked.group;
+    asked.code
+}
