@@ -5,11 +5,13 @@ ghost use Rattle.group.specs.Request.{requestAnswer};
 ghost use Rattle.group.specs.Close.{closeAnswer};
 ghost use Rattle.group.specs.Read.{readAnswer};
 ghost use Rattle.group.specs.Count.{countAnswer};
+ghost use Rattle.station.specs.Mask.{maskAnswer};
 ghost use Rattle.ferrulebee.specs.Read.{readNumbers};
 use group::Answer;
 use group::CountAnswer;
 use group::Group;
 use group::ReadAnswer;
+use station::MaskAnswer;
 
 // A read's answer in numbers: a refusal's number, or 0 with 1 for granted and 0 for denied.
 #[repr(C)]
@@ -77,4 +79,12 @@ pub extern "C" fn ferrulebee_request_at(g: &mut Group, kind: u32, number: u32) -
     let asked = (*g).request(kind, number);
     *g = asked.group;
     asked.code
+}
+
+// A station's groups side by side: the mask of the positions that grant.
+#[no_mangle]
+pub extern "C" fn ferrulebee_mask(gs: &[Group], model: u32, sheet: u32) -> MaskAnswer
+    ensures { λ r. ⌜ r ≡ maskAnswer (now (gs .entry)) model sheet ⌝ }
+{
+    station::mask(gs, model, sheet)
 }
