@@ -9,6 +9,7 @@ use Rattle.bits.specs.Bit.{bit}
 use Rattle.bits.specs.Set.{none, has}
 use Rattle.bits.proofs.Bit.{bit-zero}
 use Rattle.bits.proofs.Set.{has-none}
+use Rattle.group.proofs.Cases.{each-kind}
 use Rattle.group.specs.Carrier.{sheetWords}
 use Rattle.group.specs.Close.{closedGroup}
 use Rattle.group.specs.Fresh.{freshGroup}
@@ -32,15 +33,8 @@ no-sheet : (ws : List ℕ) (i : ℕ) → ws ≡ none sheetWords → has ws i ≡
 no-sheet ws i e = ap (λ (x : List ℕ). has x i) e ∙ has-none sheetWords i
 
 clear-mark : (g : Group) → Clear g → (k i : ℕ) → k ≤ LR → mark g k i ≡ false
-clear-mark g c zero i l = no-bit _ i (c .sj)
-clear-mark g c (suc zero) i l = no-bit _ i (c .lj)
-clear-mark g c (suc (suc zero)) i l = no-bit _ i (c .sl)
-clear-mark g c (suc (suc (suc zero))) i l = no-bit _ i (c .ll)
-clear-mark g c (suc (suc (suc (suc zero)))) i l = no-sheet _ i (c .sa)
-clear-mark g c (suc (suc (suc (suc (suc zero))))) i l = no-sheet _ i (c .la)
-clear-mark g c (suc (suc (suc (suc (suc (suc zero)))))) i l = no-sheet _ i (c .sr)
-clear-mark g c (suc (suc (suc (suc (suc (suc (suc zero))))))) i l = no-sheet _ i (c .lr)
-clear-mark g c (suc (suc (suc (suc (suc (suc (suc (suc k)))))))) i l = absurd (omega arith)
+clear-mark g c k i = each-kind (λ x. mark g x i ≡ false) (no-bit _ i (c .sj)) (no-bit _ i (c .lj)) (no-bit _ i (c .sl)) (no-bit _ i (c .ll))
+    (no-sheet _ i (c .sa)) (no-sheet _ i (c .la)) (no-sheet _ i (c .sr)) (no-sheet _ i (c .lr)) k
 
 -- no mark is there yet
 pub fresh-mark : (n k i : ℕ) → k ≤ LR → mark (freshGroup n) k i ≡ false

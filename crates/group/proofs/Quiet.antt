@@ -22,8 +22,7 @@ use Rattle.group.specs.Fits.{Sized, Fits}
 use Rattle.group.specs.Fresh.{freshGroup}
 use Rattle.group.specs.Marks.{mark}
 use Rattle.group.specs.declared.Group.{Group}
-use Rattle.group.proofs.Clear.{closed-mark}
-use Rattle.group.proofs.Cases.{each-kind}
+use Rattle.group.proofs.Clear.{fresh-mark, closed-mark}
 
 -- no carrier has an event in the open tick
 abbrev pub Unmarked : Group → Type 0
@@ -33,9 +32,7 @@ pub closed-unmarked : (g : Group) → Unmarked (closedGroup g)
 closed-unmarked = closed-mark
 
 pub fresh-unmarked : (number : ℕ) → Unmarked (freshGroup number)
-unfolding freshGroup
-fresh-unmarked number k i = each-kind (λ x. mark (freshGroup number) x i ≡ false) (bit-zero i) (bit-zero i) (bit-zero i) (bit-zero i)
-    (has-none sheetWords i) (has-none sheetWords i) (has-none sheetWords i) (has-none sheetWords i) k
+fresh-unmarked = fresh-mark
 
 -- ---- a word and a set without marks
 

@@ -16,6 +16,7 @@ use Rattle.bits.specs.Set.{has}
 use Rattle.bits.proofs.Bit.{bit-with}
 use Rattle.bits.proofs.Set.{has-with}
 use Rattle.group.specs.Accepted.{Accepted}
+use Rattle.group.proofs.Cases.{each-kind}
 use Rattle.group.specs.Carrier.{carriers, sheetWords}
 use Rattle.group.specs.Fits.{Sized, Fits}
 use Rattle.group.specs.Marks.{mark}
@@ -47,15 +48,18 @@ module _ (g : Group) (kind n : ℕ) where
   -- an accepted request sets the mark of its own kind and carrier, and no other
   pub mark-marked : Fits g → n < carriers kind → (k i : ℕ) → k ≤ LR → mark (markedGroup g kind n) k i ≡ mark g k i || (eqb kind k && eqb i n)
   unfolding markedGroup
-  mark-marked z h zero i l = bit-marked SJ (g .sj) kind n i
-  mark-marked z h (suc zero) i l = bit-marked LJ (g .lj) kind n i
-  mark-marked z h (suc (suc zero)) i l = bit-marked SL (g .sl) kind n i
-  mark-marked z h (suc (suc (suc zero))) i l = bit-marked LL (g .ll) kind n i
-  mark-marked z h (suc (suc (suc (suc zero)))) i l = has-marked SA (g .sa) kind n i (z .sa) (sheet-number kind n h)
-  mark-marked z h (suc (suc (suc (suc (suc zero))))) i l = has-marked LA (g .la) kind n i (z .la) (sheet-number kind n h)
-  mark-marked z h (suc (suc (suc (suc (suc (suc zero)))))) i l = has-marked SR (g .sr) kind n i (z .sr) (sheet-number kind n h)
-  mark-marked z h (suc (suc (suc (suc (suc (suc (suc zero))))))) i l = has-marked LR (g .lr) kind n i (z .lr) (sheet-number kind n h)
-  mark-marked z h (suc (suc (suc (suc (suc (suc (suc (suc k)))))))) i l = absurd (omega arith)
+  mark-marked z h k i =
+      let sheet = sheet-number kind n h in
+      each-kind (λ x. mark (markedGroup g kind n) x i ≡ mark g x i || (eqb kind x && eqb i n))
+      (bit-marked SJ (g .sj) kind n i)
+      (bit-marked LJ (g .lj) kind n i)
+      (bit-marked SL (g .sl) kind n i)
+      (bit-marked LL (g .ll) kind n i)
+      (has-marked SA (g .sa) kind n i (z .sa) sheet)
+      (has-marked LA (g .la) kind n i (z .la) sheet)
+      (has-marked SR (g .sr) kind n i (z .sr) sheet)
+      (has-marked LR (g .lr) kind n i (z .lr) sheet)
+      k
 
   -- ---- the answer
 

@@ -101,21 +101,21 @@ fn fresh_group(number: u32) -> Group
 // ---- request
 
 // How many carriers a kind has to choose from.
-fn carriers_of(kind: u32) -> u32
+pub fn carriers_of(kind: u32) -> u32
     ensures { λ r. ⌜ r ≡ carriers kind ⌝ }
 {
     if kind < SA { MODELS } else { SHEETS }
 }
 
 // A join or an add.
-fn is_entering(kind: u32) -> bool
+pub fn is_entering(kind: u32) -> bool
     ensures { λ r. ⌜ r ≡ entering kind ⌝ }
 {
     (kind == SJ) | (kind == LJ) | (kind == SA) | (kind == LA)
 }
 
 // One kind's marks after a request: changed where the request is of that kind.
-fn mark_word(word: u64, when: bool, model: u32) -> u64
+pub fn mark_word(word: u64, when: bool, model: u32) -> u64
     requires { ⌜ (when ≡ true → model < models) ⌝ }
     ensures { λ r. ⌜ r ≡ cond when (withBit word model) word ⌝ }
 {
@@ -126,7 +126,7 @@ fn mark_word(word: u64, when: bool, model: u32) -> u64
     }
 }
 
-fn mark_set(words: [u64; 4], when: bool, sheet: u32) -> [u64; 4]
+pub fn mark_set(words: [u64; 4], when: bool, sheet: u32) -> [u64; 4]
     requires { ⌜ (when ≡ true → sheet < sheets) ⌝ }
     ensures { λ r. ⌜ r ≡ cond when (with words sheet) words ⌝ }
 {
@@ -271,7 +271,7 @@ fn close_words(
 }
 
 impl Group {
-    fn after_close(self) -> Group
+    pub fn after_close(self) -> Group
         requires { ⌜ self .closed < ticks ⌝ }
         ensures { λ r. ⌜ r ≡ closedGroup self ⌝ }
     {

@@ -19,6 +19,13 @@ ticks = 1000000
 abbrev pub events : ℕ
 events = 4096
 
+-- the bytes of a book's header, which is the offset of its records, and of the longest book
+abbrev pub bookHeader : ℕ
+bookHeader = 20
+
+abbrev pub longestBook : ℕ
+longestBook = 16404
+
 -- the most bytes in a store
 abbrev pub storeBytes : ℕ
 storeBytes = 1048576

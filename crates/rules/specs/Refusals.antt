@@ -42,6 +42,34 @@ badModel = 13
 abbrev pub badSheet : ℕ
 badSheet = 14
 
+-- the event book: 20 to 28
+abbrev pub badLength : ℕ
+badLength = 20
+
+abbrev pub badTotal : ℕ
+badTotal = 21
+
+abbrev pub badHeader : ℕ
+badHeader = 22
+
+abbrev pub badCount : ℕ
+badCount = 23
+
+abbrev pub badRecord : ℕ
+badRecord = 24
+
+abbrev pub notRising : ℕ
+notRising = 25
+
+abbrev pub illFormed : ℕ
+illFormed = 26
+
+abbrev pub shortBuffer : ℕ
+shortBuffer = 27
+
+abbrev pub shortList : ℕ
+shortList = 28
+
 -- a delivery: 31 to 34
 abbrev pub badStore : ℕ
 badStore = 31

@@ -10,6 +10,11 @@ pub const GROUPS: u32 = 16;
 pub const TICKS: u32 = 1000000;
 // The most events in a strip, and records in a book.
 pub const EVENTS: usize = 4096;
+// The bytes of a book's header, which is the offset of its records, and of the longest book.
+pub const BOOK_HEADER: usize = 20;
+
+pub const LONGEST_BOOK: usize = 16404;
+
 // The most bytes in a store.
 pub const STORE_BYTES: usize = 1048576;
 
@@ -59,6 +64,25 @@ pub const LONG_SHEET: u32 = 12;
 pub const BAD_MODEL: u32 = 13;
 
 pub const BAD_SHEET: u32 = 14;
+
+// Refusals of the event book.
+pub const BAD_LENGTH: u32 = 20;
+
+pub const BAD_TOTAL: u32 = 21;
+
+pub const BAD_HEADER: u32 = 22;
+
+pub const BAD_COUNT: u32 = 23;
+
+pub const BAD_RECORD: u32 = 24;
+
+pub const NOT_RISING: u32 = 25;
+
+pub const ILL_FORMED: u32 = 26;
+
+pub const SHORT_BUFFER: u32 = 27;
+
+pub const SHORT_LIST: u32 = 28;
 
 // Refusals of a delivery.
 pub const BAD_STORE: u32 = 31;

@@ -1,0 +1,7 @@
+pub mod Book
+pub mod Calls
+pub mod Read
+pub mod Records
+pub mod Replay
+pub mod Tick
+pub mod Write
