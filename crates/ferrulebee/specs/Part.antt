@@ -6,6 +6,7 @@ use Rattle.formula.specs.declared.Verdict.{Verdict}
 use Rattle.formula.specs.declared.Verdict.the-variants.{Granted, Denied, Refused}
 use Rattle.formula.specs.declared.Moment.the-variants.{Add, Join}
 use Rattle.judge.specs.Evidence.{placeOf}
+use Rattle.book.specs.Tick.{tickPart, tickStart}
 use Rattle.ferrulebee.specs.declared.part.Part.{Part}
 
 -- the model's strip is list 0, the sheet's is list 1
@@ -25,3 +26,7 @@ evidencePart (Granted (Add t)) m s = tailPart sheetStrip (placeOf s t) s
 evidencePart (Granted (Join t)) m s = tailPart modelStrip (placeOf m t) m
 evidencePart (Denied cause) m s = record { list = modelStrip; first = 0; count = 0 }
 evidencePart (Refused refusal place) m s = record { list = modelStrip; first = 0; count = 0 }
+
+-- "The records of one tick are shown as a part of the lent word list": it is list 0, the only one
+abbrev pub recordsPart : List ℕ → ℕ → Part
+recordsPart words tick = record { list = 0; first = tickStart words tick; count = length (tickPart words tick) }

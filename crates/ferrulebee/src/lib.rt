@@ -1,5 +1,6 @@
 // The gate for C. Each export is its call with the same promise; enums and parts of lists cross as numbers.
 // Here the judge: plain numbers and slices in, one number out.
+mod book_calls;
 mod deliver;
 mod gate;
 mod part;
