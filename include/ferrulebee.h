@@ -31,6 +31,8 @@ enum {
     FERRULEBEE_TICKS = 1000000,       /* ticks are 1 .. 1,000,000 */
     FERRULEBEE_EVENTS = 4096,         /* the most events in a strip, and records in a book */
     FERRULEBEE_STORE_BYTES = 1048576, /* the most bytes in a store */
+    FERRULEBEE_BOOK_HEADER = 20,      /* the bytes of a book's header, and the offset of its records */
+    FERRULEBEE_LONGEST_BOOK = 16404,  /* the bytes of a book of 4,096 records */
     FERRULEBEE_SET_WORDS = 4          /* words in a set of sheets, a bit a sheet */
 };
 
@@ -67,6 +69,16 @@ enum {
     FERRULEBEE_LONG_SHEET = 12,        /* sheet's strip likewise */
     FERRULEBEE_BAD_MODEL = 13,         /* model's strip not good; its first bad place */
     FERRULEBEE_BAD_SHEET = 14,         /* sheet's strip likewise */
+    FERRULEBEE_BAD_LENGTH = 20,        /* book below 20 or above 16,404 bytes */
+    FERRULEBEE_BAD_TOTAL = 21,         /* its total field differs from its length */
+    FERRULEBEE_BAD_HEADER = 22,        /* closed ticks above 1,000,000, records above 4,096, offset not 20,
+                                          or group above 15 */
+    FERRULEBEE_BAD_COUNT = 23,         /* 20 + 4 * records differs from the total */
+    FERRULEBEE_BAD_RECORD = 24,        /* record: tick 0 or above the closed ticks, or number out of range; its place */
+    FERRULEBEE_NOT_RISING = 25,        /* record: word not greater than the one before; its place */
+    FERRULEBEE_ILL_FORMED = 26,        /* record: breaks well-formedness; its place */
+    FERRULEBEE_SHORT_BUFFER = 27,      /* writer's buffer shorter than the book */
+    FERRULEBEE_SHORT_LIST = 28,        /* reader's word list shorter than the records */
     FERRULEBEE_BAD_STORE = 31,         /* store below 8 or above 1,048,576 bytes, its total field wrong,
                                           more than 256 sheets, or a table that runs past the total */
     FERRULEBEE_NOT_IN_STORE = 32,      /* granted sheet's number not below the store's count; the sheet */
@@ -184,6 +196,67 @@ FERRULEBEE_ASSERT(offsetof(ferrulebee_mask_answer, mask) == 4);
 ferrulebee_mask_answer ferrulebee_mask(const ferrulebee_group *list, size_t groups,
                                        uint32_t model, uint32_t sheet);
 
+/* ---- the event book ---- */
+
+/* A book: total length, closed ticks, record count, offset of the records (20), group number, then the
+ * records: event words, strictly rising. All numbers are four bytes, little-endian. */
+
+/* A refusal's number with the record's place, 0 where it has none, and a fresh group 0;
+ * or 0 and 0 with the group. */
+typedef struct {
+    uint32_t code;
+    uint32_t place;
+    ferrulebee_group group;
+} ferrulebee_book_read_answer;
+
+FERRULEBEE_ASSERT(sizeof(ferrulebee_book_read_answer) == 2296);
+FERRULEBEE_ASSERT(offsetof(ferrulebee_book_read_answer, code) == 0);
+FERRULEBEE_ASSERT(offsetof(ferrulebee_book_read_answer, place) == 4);
+FERRULEBEE_ASSERT(offsetof(ferrulebee_book_read_answer, group) == 8);
+
+/* Reads a book: the group that its records lead to, and its words to the front of `list`, which has room
+ * for `list_words`; words beyond them stay.
+ * Refusals: 20, 21, 22, 23, 28, then record by record 24, 25, 26. */
+ferrulebee_book_read_answer ferrulebee_book_read(const uint8_t *book, size_t book_bytes,
+                                                 uint32_t *list, size_t list_words);
+
+/* A refusal's number with the record's place, 0 where it has none, and length 0;
+ * or 0 and 0 with the book's length in bytes. */
+typedef struct {
+    uint32_t code;
+    uint32_t place;
+    size_t length;
+} ferrulebee_book_write_answer;
+
+FERRULEBEE_ASSERT(sizeof(ferrulebee_book_write_answer) == 16);
+FERRULEBEE_ASSERT(offsetof(ferrulebee_book_write_answer, code) == 0);
+FERRULEBEE_ASSERT(offsetof(ferrulebee_book_write_answer, place) == 4);
+FERRULEBEE_ASSERT(offsetof(ferrulebee_book_write_answer, length) == 8);
+
+/* Writes the book of a group with so many closed ticks and this number from its records, in book order.
+ * Bytes of `buffer` beyond the book stay.
+ * Refusals: 22, 27, then record by record 24, 25, 26. */
+ferrulebee_book_write_answer ferrulebee_book_write(uint32_t ticks, uint32_t number,
+                                                   const uint32_t *records, size_t count,
+                                                   uint8_t *buffer, size_t buffer_bytes);
+
+/* A part of a lent list: which list, its first word from 0, how many words. */
+typedef struct {
+    uint32_t list;
+    size_t first;
+    size_t count;
+} ferrulebee_part;
+
+FERRULEBEE_ASSERT(sizeof(ferrulebee_part) == 24);
+FERRULEBEE_ASSERT(offsetof(ferrulebee_part, list) == 0);
+FERRULEBEE_ASSERT(offsetof(ferrulebee_part, first) == 8);
+FERRULEBEE_ASSERT(offsetof(ferrulebee_part, count) == 16);
+
+/* The records of one tick, as a part of the list (list 0). For a tick without records it is the empty part
+ * where they would stand, and for a list that isn't strictly rising the empty part at the start. It refuses
+ * nothing. */
+ferrulebee_part ferrulebee_tick_part(const uint32_t *records, size_t count, uint32_t tick);
+
 /* ---- deliveries ---- */
 
 /* A refusal's number with its place, the sheet for 32 and 33 and else 0, and length 0;
@@ -220,18 +293,6 @@ ferrulebee_delivery ferrulebee_deliver(ferrulebee_group group, uint32_t model,
 uint64_t judge(const uint8_t *model, size_t model_bytes,
                const uint8_t *sheet, size_t sheet_bytes,
                uint32_t now);
-
-/* A part of a lent list: which list, its first word from 0, how many words. */
-typedef struct {
-    uint32_t list;
-    size_t first;
-    size_t count;
-} ferrulebee_part;
-
-FERRULEBEE_ASSERT(sizeof(ferrulebee_part) == 24);
-FERRULEBEE_ASSERT(offsetof(ferrulebee_part, list) == 0);
-FERRULEBEE_ASSERT(offsetof(ferrulebee_part, first) == 8);
-FERRULEBEE_ASSERT(offsetof(ferrulebee_part, count) == 16);
 
 /* The lists of an evidence. */
 enum {

@@ -315,11 +315,118 @@ static void deliveries(void)
     give_back();
 }
 
+/* ---- the book ---- */
+
+/* Document 01's book of group 3: six ticks, eight records. */
+static const uint32_t records[] = {4610, 6144, 9730, 14849, 16386, 16901, 24065, 27648};
+enum { RECORDS = sizeof records / sizeof *records, BOOK = FERRULEBEE_BOOK_HEADER + 4 * RECORDS };
+
+/* Its bytes, with one word set, read by a list of so many words. */
+static void book_read(const char *what, size_t bytes, size_t at, uint32_t word, size_t room, uint32_t expected, uint32_t place)
+{
+    static const uint32_t header[] = {BOOK, 6, RECORDS, FERRULEBEE_BOOK_HEADER, 3};
+    uint32_t *list = lend(4 * room);
+    uint8_t *book = lend(bytes);
+    for (size_t i = 0; i < 5 + RECORDS && 4 * i + 4 <= bytes; i++)
+        put(book + 4 * i, i < 5 ? header[i] : records[i - 5]);
+    if (at + 4 <= bytes)
+        put(book + at, word);
+    save();
+    ferrulebee_book_read_answer a = ferrulebee_book_read(book, bytes, list, room);
+    answered(what, a.code, expected, 0, 4 * RECORDS);
+    if (a.place != place)
+        fault(what, "another place", a.code, expected);
+    ferrulebee_group zero = fresh(0);
+    if (expected != 0 && memcmp(&a.group, &zero, sizeof zero) != 0)
+        fault(what, "not a fresh group 0", a.code, expected);
+    if (expected == 0 && memcmp(list, records, sizeof records) != 0)
+        fault(what, "another list", a.code, expected);
+    give_back();
+}
+
+static void book_reads(void)
+{
+    size_t none = SIZE_MAX - 4, first = FERRULEBEE_BOOK_HEADER;
+    book_read("book read: 19 bytes", 19, none, 0, RECORDS, 20, 0);
+    book_read("book read: 16,405 bytes", FERRULEBEE_LONGEST_BOOK + 1, none, 0, RECORDS, 20, 0);
+    book_read("book read: another total", BOOK, 0, BOOK + 1, RECORDS, 21, 0);
+    book_read("book read: too many ticks", BOOK, 4, FERRULEBEE_TICKS + 1, RECORDS, 22, 0);
+    book_read("book read: too many records", BOOK, 8, FERRULEBEE_EVENTS + 1, RECORDS, 22, 0);
+    book_read("book read: another offset", BOOK, 12, 24, RECORDS, 22, 0);
+    book_read("book read: group 16", BOOK, 16, 16, RECORDS, 22, 0);
+    book_read("book read: a count that doesn't fit the total", BOOK, 8, RECORDS - 1, RECORDS, 23, 0);
+    book_read("book read: a list that is one short", BOOK, none, 0, RECORDS - 1, 28, 0);
+    book_read("book read: no list at all", BOOK, none, 0, 0, 28, 0);
+    book_read("book read: the last tick is beyond", BOOK, 4, 5, RECORDS, 24, RECORDS - 1);
+    book_read("book read: a model out of range", BOOK, first, FERRULEBEE_WORD(1, FERRULEBEE_LJ, 64), RECORDS, 24, 0);
+    book_read("book read: a word twice", BOOK, first + 4, 4610, RECORDS, 25, 1);
+    book_read("book read: a leave while out", BOOK, first, FERRULEBEE_WORD(1, FERRULEBEE_LL, 2), RECORDS, 26, 0);
+    book_read("book read: a fit", BOOK, none, 0, RECORDS, 0, 0);
+    book_read("book read: with words to spare", BOOK, none, 0, FERRULEBEE_EVENTS, 0, 0);
+}
+
+/* The records with one changed, written to a buffer of so many bytes. */
+static void book_write(const char *what, uint32_t ticks, uint32_t number, size_t at, uint32_t word, size_t room, uint32_t expected, uint32_t place)
+{
+    uint8_t *buffer = lend(room);
+    uint32_t *words = lend(sizeof records);
+    memcpy(words, records, sizeof records);
+    if (at < RECORDS)
+        words[at] = word;
+    save();
+    ferrulebee_book_write_answer a = ferrulebee_book_write(ticks, number, words, RECORDS, buffer, room);
+    answered(what, a.code, expected, 0, BOOK);
+    if (a.place != place || a.length != (expected == 0 ? (size_t)BOOK : 0))
+        fault(what, "another place or length", a.code, expected);
+    give_back();
+}
+
+static void book_writes(void)
+{
+    book_write("book write: too many ticks", FERRULEBEE_TICKS + 1, 3, RECORDS, 0, BOOK, 22, 0);
+    book_write("book write: group 16", 6, 16, RECORDS, 0, BOOK, 22, 0);
+    book_write("book write: one byte short", 6, 3, RECORDS, 0, BOOK - 1, 27, 0);
+    book_write("book write: no buffer at all", 6, 3, RECORDS, 0, 0, 27, 0);
+    book_write("book write: the last tick is beyond", 5, 3, RECORDS, 0, BOOK, 24, RECORDS - 1);
+    book_write("book write: a word twice", 6, 3, 1, 4610, BOOK, 25, 1);
+    book_write("book write: a leave while out", 6, 3, 0, FERRULEBEE_WORD(1, FERRULEBEE_LL, 2), BOOK, 26, 0);
+    book_write("book write: a fit", 6, 3, RECORDS, 0, BOOK, 0, 0);
+    book_write("book write: with bytes to spare", 6, 3, RECORDS, 0, BOOK + 9, 0, 0);
+    uint8_t *buffer = lend(FERRULEBEE_LONGEST_BOOK + 4);
+    uint32_t *words = lend(4 * (FERRULEBEE_EVENTS + 1));
+    save();
+    answered("book write: 4,097 records", ferrulebee_book_write(6, 3, words, FERRULEBEE_EVENTS + 1, buffer, FERRULEBEE_LONGEST_BOOK + 4).code, 22, -1, 0);
+    give_back();
+}
+
+static void tick_part(const char *what, uint32_t tick, size_t at, uint32_t word, size_t start, size_t count)
+{
+    uint32_t *words = lend(sizeof records);
+    memcpy(words, records, sizeof records);
+    if (at < RECORDS)
+        words[at] = word;
+    save();
+    ferrulebee_part p = ferrulebee_tick_part(words, RECORDS, tick);
+    answered(what, p.list == 0 && p.first == start && p.count == count ? 0 : 1, 0, -1, 0);
+    give_back();
+}
+
+static void tick_parts(void)
+{
+    tick_part("tick part: the first two", 1, RECORDS, 0, 0, 2);
+    tick_part("tick part: two in the middle", 4, RECORDS, 0, 4, 2);
+    tick_part("tick part: the last", 6, RECORDS, 0, 7, 1);
+    tick_part("tick part: tick 0", 0, RECORDS, 0, 0, 0);
+    tick_part("tick part: a tick without records", 5, 6, FERRULEBEE_WORD(6, 0, 0), 6, 0);
+    tick_part("tick part: beyond all", UINT32_MAX, RECORDS, 0, RECORDS, 0);
+    tick_part("tick part: a list that doesn't rise", 4, 7, 0, 0, 0);
+}
+
 /* ---- which numbers were reached ---- */
 
 static void reached(void)
 {
-    static const int numbers[] = {1, 2, 3, 4, 5, 6, 7, 9, 10, 11, 12, 13, 14, 31, 32, 33, 34};
+    static const int numbers[] = {1, 2, 3, 4, 5, 6, 7, 9, 10, 11, 12, 13, 14, 20, 21, 22, 23, 24, 25, 26, 27, 28, 31, 32, 33, 34};
     for (size_t i = 0; i < sizeof numbers / sizeof *numbers; i++)
         if (seen[numbers[i]] == 0) {
             faults++;
@@ -337,6 +444,9 @@ int main(int count, char **words)
     masks();
     histories();
     deliveries();
+    book_reads();
+    book_writes();
+    tick_parts();
     reached();
     printf("guards: %u checks, %u faults\n", checks, faults);
     return faults != 0;
