@@ -1,9 +1,7 @@
 -- A book that is read leaves its ticks closed and its number: requests move neither, and a close counts one tick. Assumes nothing.
 use mathlib.Core.Path.{_≡_, refl, sym, ap, _∙_, subst}
-use mathlib.Core.Bool.{true, false}
 use mathlib.Core.List.{List, [], _∷_, _++_, map}
-use mathlib.Core.Logic.{⊎-elim}
-use Prim.Native.Nat.{ℕ, zero, suc, _+_, _≤_, _<_}
+use Prim.Native.Nat.{ℕ, zero, suc, _≤_, _<_}
 use native.Mathlib.Numerals.{add-one}
 use native.Mathlib.Omega.{arith}
 use lib.ListN.{length}
@@ -16,7 +14,7 @@ use Rattle.group.specs.declared.Answer.{Answer}
 use Rattle.group.specs.declared.Group.{Group}
 use Rattle.group.proofs.Close.{close-accepted, closed-number, closed-closed}
 use Rattle.group.proofs.Request.{request-keeps}
-use Rattle.history.specs.Run.{Call, close, Reached, step, run, fresh, reached}
+use Rattle.history.specs.Run.{close, Reached, step, run, fresh, reached}
 use Rattle.history.proofs.Runs.{run-append}
 use Rattle.book.specs.Calls.{requestOf, requestsOf, bookCalls, groupOf}
 use Rattle.book.specs.Read.{ticksIn, numberIn, recordsIn, bookRead}

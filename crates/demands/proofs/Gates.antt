@@ -22,9 +22,11 @@ use Rattle.history.proofs.Gate as gate
 use Rattle.history.proofs.Runs.{reached-append}
 use Rattle.book.specs.Calls.{bookCalls}
 use Rattle.book.specs.Read.{ticksIn, numberIn, recordsIn, bookRead}
+use Rattle.book.specs.Replay.{replayedGroup}
 use Rattle.book.specs.declared.BookRead.{BookRead}
-use Rattle.book.proofs.Accepted.{read-code, read-formed, good-read}
-use Rattle.demands.specs.Calls.{Call, groupAfter, fresh, moving, acceptedFrom, accepted, bookReached}
+use Rattle.book.proofs.Accepted.{read-code, read-headed, read-formed, good-read}
+use Rattle.book.proofs.Replaying.{replay-reached, replay-calls}
+use Rattle.demands.specs.Calls.{Call, groupAfter, fresh, moving, acceptedFrom, accepted, readFrom}
 use Rattle.demands.specs.Gated.{Granting, Gated}
 use Rattle.demands.proofs.Moving.{run-moving}
 use Rattle.demands.proofs.Parts.{delivered-holds}
@@ -68,11 +70,18 @@ fresh-gated number calls = run-gated number [] calls
 
 -- a run on the group that an accepted book was read into
 pub book-gated : (b list : List ℕ) (calls : List Call) → bookRead b (length list) .code ≡ 0
-    → Gated (groupAfter (bookRead b (length list) .group) calls) (acceptedFrom (bookReached b) calls)
+    → Gated (groupAfter (bookRead b (length list) .group) calls) (acceptedFrom (readFrom b (bookRead b (length list) .group)) calls)
 book-gated b list calls e =
-    let answer = good-read b list (read-code b (length list) e) (read-formed b (length list) e) in
-    subst (λ (r : BookRead). Gated (groupAfter (r .group) calls) (acceptedFrom (bookReached b) calls)) (sym answer)
-    (run-gated (numberIn b) (bookCalls (recordsIn b) (ticksIn b)) calls)
+    let T = ticksIn b in
+    let ws = recordsIn b in
+    let formed = read-formed b (length list) e in
+    let limit = read-headed b (length list) e .range .time in
+    let answer = good-read b list (read-code b (length list) e) formed in
+    let group : replayedGroup T (numberIn b) ws ≡ bookRead b (length list) .group =
+    replay-calls T (numberIn b) ws limit formed ∙ ap (λ (r : BookRead). r .group) (sym answer) in
+    let same : reached (numberIn b) (bookCalls ws T) ≡ readFrom b (bookRead b (length list) .group) =
+    replay-reached T (numberIn b) ws limit formed ∙ ap (readFrom b) group in
+    subst (λ (r : Reached). Gated (groupAfter (r .group) calls) (acceptedFrom r calls)) same (run-gated (numberIn b) (bookCalls ws T) calls)
 
 -- Position i of a list, asked for a model and a sheet within the ranges; d is what stands past its end.
 module _ (gs : List Group) (d : Group) (m s i : ℕ) (few : length gs ≤ groups) (l : m < models) (b : s < sheets) (h : i < length gs) where

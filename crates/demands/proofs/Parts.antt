@@ -2,21 +2,21 @@
 use mathlib.Core.Path.{_≡_, refl, sym, ap, ap₂, _∙_, subst}
 use mathlib.Core.Bool.{Bool, true, false, not, cond}
 use mathlib.Core.List.{List, [], _∷_, _++_, append-assoc, map}
-use mathlib.Core.Logic.{⊎-elim, _↔_}
+use mathlib.Core.Logic.{_↔_}
 use Prim.Native.Nat.{ℕ, suc, _+_, _≤_, _<_}
 use native.Mathlib.Omega.{arith}
 use lib.Dec.{leb, ltb}
 use lib.ListN.{length, getD, take, drop, length-append, length-drop}
 use lib.Seq.{drop-at, take-at, length-take-le}
 use borrow.Author.Tests.{leb-false, ltb-false, not-false}
-use Rattle.base.proofs.First.{either, first-le}
+use Rattle.base.proofs.First.{first-le}
 use Rattle.rules.specs.Ranges.{models, sheets}
 use Rattle.rules.specs.Refusals.{badNumber, badStore, deliveryTooLong}
 use Rattle.wire.specs.Word.{le32, bytes32}
 use Rattle.wire.proofs.Word.{length-bytes32}
 use Rattle.store.specs.Answer.{answer, written, bufferAfter}
 use Rattle.store.specs.Delivery.{part, parts, sheetBytes, deliveryLength, deliveryOf, grantedSheets}
-use Rattle.store.specs.Entry.{offset, sheetLength, entryFault}
+use Rattle.store.specs.Entry.{offset, sheetLength}
 use Rattle.store.specs.Fault.{faulty, firstFaulty}
 use Rattle.store.specs.Granted.{granted}
 use Rattle.store.specs.Listed.{listed, Exactly}
@@ -30,7 +30,7 @@ use Rattle.store.proofs.Head.{read-first, read-second, drop-head}
 use Rattle.store.proofs.Listed.{granted-exactly, delivery-count, delivery-total, delivery-lists, delivered-exactly}
 use Rattle.store.proofs.Parts.{length-part}
 use Rattle.store.proofs.Store.{good}
-use Rattle.demands.specs.Delivered.{Part, partsOf, partsIn, stored, Holds}
+use Rattle.demands.specs.Delivered.{partsOf, partsIn, stored, Holds}
 
 -- ---- what `Delivered` tells
 

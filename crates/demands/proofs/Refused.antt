@@ -23,7 +23,7 @@ use Rattle.group.specs.declared.ReadAnswer.the-variants.{Granted, Denied, Refus
 use Rattle.group.proofs.Request.{request-code, request-refused}
 use Rattle.station.specs.Mask.{maskOf, listRefusal, answerWith, maskAnswer}
 use Rattle.station.specs.declared.MaskAnswer.{MaskAnswer}
-use Rattle.demands.specs.Lines.{Refusal, plain, none, line, firstMet, Refuses}
+use Rattle.demands.specs.Lines.{plain, line, firstMet, Refuses}
 use Rattle.demands.specs.Refusals.{freshLines, requestLines, closeLines, readLines, countLines, maskLines}
 
 -- ---- fresh, close, count

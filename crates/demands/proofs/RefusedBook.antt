@@ -1,28 +1,23 @@
 -- The refusals of the book's reader and writer, line by line. Assumes nothing.
 use mathlib.Core.Path.{_≡_, refl, sym, ap, _∙_}
 use mathlib.Core.Bool.{Bool, true, false, not, cond, _||_}
-use mathlib.Core.List.{List, [], _∷_, _++_}
+use mathlib.Core.List.{List, [], _∷_}
 use mathlib.Core.Logic.{⊎-elim}
-use Prim.Native.Nat.{ℕ, _<_}
+use Prim.Native.Nat.{ℕ}
 use native.Mathlib.Omega.{arith}
 use lib.Dec.{eqb, ltb}
-use lib.ListN.{length, getD, drop}
+use lib.ListN.{length, getD}
 use borrow.Author.Tests.{eqb-true}
 use Rattle.base.specs.First.{first}
 use Rattle.base.proofs.First.{either}
 use Rattle.rules.specs.Ranges.{bookHeader, longestBook}
 use Rattle.rules.specs.Refusals.{badLength, badTotal, badHeader, badCount, badRecord, notRising, illFormed, shortBuffer, shortList}
 use Rattle.group.specs.Fresh.{freshGroup}
-use Rattle.group.specs.declared.Group.{Group}
-use Rattle.wire.specs.Put.{put}
-use Rattle.book.specs.Book.{lengthOf, beyond, bookOf}
-use Rattle.book.specs.Calls.{groupOf}
-use Rattle.book.specs.Read.{totalIn, ticksIn, countIn, offsetIn, numberIn, recordsIn, headerRefusal, readRefusal, refusedRead, answerOf, bookRead, listAfter, listRead}
+use Rattle.book.specs.Book.{lengthOf, beyond}
+use Rattle.book.specs.Read.{totalIn, ticksIn, countIn, offsetIn, numberIn, recordsIn, headerRefusal, readRefusal, bookRead, listRead}
 use Rattle.book.specs.Records.{outside, notGreater, carrierOf, lastOf, breaks, recordRefusal, firstRefused, recordsRefusal}
 use Rattle.book.specs.Records as records
 use Rattle.book.specs.Write.{roomRefusal, writeRefusal, bookWritten, bufferWritten}
-use Rattle.book.specs.declared.BookRead.{BookRead}
-use Rattle.book.specs.declared.BookWritten.{BookWritten}
 use Rattle.book.specs.declared.Refusal as book
 use Rattle.book.proofs.Pass.{well-formed, none-refused}
 use Rattle.demands.specs.Lines.{Refusal, at, plain, none, Line, line, firstMet, eachBelow, Refuses}

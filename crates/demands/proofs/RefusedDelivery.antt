@@ -1,7 +1,7 @@
 -- A delivery's refusals, line by line. Assumes nothing.
 use mathlib.Core.Path.{_≡_, refl, ap, _∙_, sym}
-use mathlib.Core.Bool.{Bool, true, false, not, cond, _&&_, _||_}
-use mathlib.Core.List.{List, [], _∷_, _++_}
+use mathlib.Core.Bool.{Bool, true, false, not, cond, _&&_}
+use mathlib.Core.List.{List, [], _∷_}
 use Prim.Native.Nat.{ℕ}
 use native.Mathlib.Omega.{arith}
 use lib.Dec.{eqb, ltb, leb}
@@ -16,7 +16,7 @@ use Rattle.store.specs.Granted.{granted}
 use Rattle.store.specs.Store.{sheetCount, goodStore}
 use Rattle.store.specs.declared.Delivery.{Delivery}
 use Rattle.store.specs.declared.Delivery.the-variants.{Delivered, Refused}
-use Rattle.demands.specs.Lines.{Refusal, at, plain, none, Line, line, firstMet, eachBelow, Refuses}
+use Rattle.demands.specs.Lines.{Refusal, at, plain, none, Line, line, firstMet, Refuses}
 use Rattle.demands.specs.Refusals.{sheetLines, deliveryLines, refusedDelivery}
 use Rattle.demands.proofs.Lines.{any, first-each}
 

@@ -8,7 +8,6 @@ use native.Mathlib.Omega.{arith}
 use lib.Dec.{eqb, leb}
 use lib.ListN.{length, getD}
 use borrow.Author.Tests.{ltb-true, ltb-false, eqb-true, eqb-false, ne-eqb}
-use Rattle.base.specs.Table.{table}
 use Rattle.base.proofs.First.{either}
 use Rattle.base.proofs.Table.{getD-table}
 use Rattle.rules.specs.Kinds.{SA, LA, SR, LR, isAdd, isRemove}
@@ -18,19 +17,17 @@ use Rattle.bits.specs.Bit.{bit}
 use Rattle.group.specs.Carrier.{ofModel}
 use Rattle.group.specs.Fits.{Fits}
 use Rattle.group.specs.Read.{granted, readAnswer}
-use Rattle.group.specs.Request.{requestRefusal, requestAnswer}
+use Rattle.group.specs.Request.{requestAnswer}
 use Rattle.group.specs.View.{View, view, viewRefusal, viewRequest, viewClose, viewRead}
 use Rattle.group.specs.declared.Group.{Group}
-use Rattle.group.specs.declared.ReadAnswer.{ReadAnswer}
 use Rattle.group.proofs.Accepted.{accepted}
 use Rattle.group.proofs.Fits.{request-fits, close-fits}
 use Rattle.group.proofs.Request.{request-refused}
 use Rattle.group.proofs.View.{other-model, view-refusal, view-request, view-close, view-close-code, view-read}
 use Rattle.store.specs.Agree.{Agree}
 use Rattle.store.specs.Granted.{granted as grantedBy}
-use Rattle.store.specs.declared.Delivery.{Delivery}
 use Rattle.store.proofs.Agree.{same-answer, same-buffer}
-use Rattle.demands.specs.Calls.{Call, request, close, read, count, deliver, Answer, coded, shown, delivered, answerTo, after}
+use Rattle.demands.specs.Calls.{Call, request, close, read, count, deliver, coded, shown, delivered, answerTo, after}
 use Rattle.demands.specs.Alike.{forSheet, shared}
 
 -- true is not false

@@ -25,7 +25,7 @@ use Rattle.wire.specs.Word.{AllBytes}
 use Rattle.book.specs.Read.{ticksIn, countIn, numberIn, bookRead, listRead}
 use Rattle.book.specs.Write.{bookWritten, bufferWritten}
 use Rattle.book.proofs.Promise.{ReadBack, write-then-read, read-then-write}
-use Rattle.demands.specs.Calls.{Call, groupAfter, fresh, acceptedFrom, accepted, bookReached}
+use Rattle.demands.specs.Calls.{Call, groupAfter, fresh, acceptedFrom, accepted, readFrom}
 use Rattle.demands.specs.Gated.{Granting, Gated}
 use Rattle.demands.proofs.Counted.{Stands, book-stands}
 use Rattle.demands.proofs.Gates.{fresh-gated, book-gated, mask-gated}
@@ -38,7 +38,7 @@ pub record DemandTwo : Type 0 where
   pub gate : (number : ℕ) (calls : List Call) → Gated (groupAfter (fresh number) calls) (accepted number calls)
   -- the same from an accepted book, and any calls on the group that it was read into, which has the book's ticks closed and its number
   pub book : (b list : List ℕ) (calls : List Call) → bookRead b (length list) .code ≡ 0
-      → Gated (groupAfter (bookRead b (length list) .group) calls) (acceptedFrom (bookReached b) calls)
+      → Gated (groupAfter (bookRead b (length list) .group) calls) (acceptedFrom (readFrom b (bookRead b (length list) .group)) calls)
   pub book-ticks : (b list : List ℕ) → bookRead b (length list) .code ≡ 0 → Stands (bookRead b (length list) .group) (ticksIn b) (numberIn b)
   -- "A written event book reads back as the same events"
   pub written : (T number : ℕ) (ws buffer list : List ℕ) → bookWritten T number ws (length buffer) .code ≡ 0 → length ws ≤ length list

@@ -14,8 +14,7 @@ use Rattle.group.specs.declared.ReadAnswer.{ReadAnswer}
 use Rattle.store.specs.Answer.{answer, bufferAfter}
 use Rattle.store.specs.declared.Delivery.{Delivery}
 use Rattle.history.specs.Run as history
-use Rattle.book.specs.Calls.{bookCalls}
-use Rattle.book.specs.Read.{ticksIn, numberIn, recordsIn}
+use Rattle.book.specs.Read.{recordsIn}
 
 -- a request of a kind and a number; a close; a read by a model of a sheet; how many models may read a sheet; a delivery to a model, with its
 -- store and its buffer
@@ -73,6 +72,6 @@ acceptedFrom before calls = history.run (moving calls) before .events
 abbrev pub accepted : ℕ → List Call → List ℕ
 accepted number calls = acceptedFrom (history.fresh number) calls
 
--- what an accepted book's records stand for: the calls that they tell of, from a fresh group of the book's number
-abbrev pub bookReached : List ℕ → history.Reached
-bookReached b = history.reached (numberIn b) (bookCalls (recordsIn b) (ticksIn b))
+-- a group that a book was read into: the events that it has accepted are the book's records
+abbrev pub readFrom : List ℕ → Group → history.Reached
+readFrom b g = record { group = g; events = recordsIn b }
