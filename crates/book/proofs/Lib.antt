@@ -1,4 +1,4 @@
--- Laws of books: what the proofs of this crate's functions, and other crates, cite.
+-- Laws of books: what the proofs of this crate's functions, and other crates, cite. Promise.antt states what the promises say together.
 pub mod Accepted
 pub mod Carriers
 pub mod Format
