@@ -1,20 +1,20 @@
-/* Requests on a group lent and marked where it stands: the accepted ones set one mark, the refused ones change no byte. Prints ok. */
+/* Requests on a group lent and marked where it stands: the accepted ones set one mark, the refused ones change no byte. */
+#include "ferrulebee.h"
+
 #include <stdio.h>
 #include <string.h>
-#include "group.h"
 
-uint32_t request_at(Group *g, uint32_t kind, uint32_t number);
 
-static Group g;
+static ferrulebee_group g;
 static int bad;
 
 /* the code, and which byte range may differ: none on a refusal, the one word otherwise */
 static void asked(const char *what, uint32_t kind, uint32_t number, uint32_t code, uint64_t *word, uint64_t bit)
 {
-    Group expected = g;
+    ferrulebee_group expected = g;
     if (word)
         *(uint64_t *)((char *)&expected + ((char *)word - (char *)&g)) |= bit;
-    uint32_t got = request_at(&g, kind, number);
+    uint32_t got = ferrulebee_request_at(&g, kind, number);
     if (got != code || memcmp(&expected, &g, sizeof g)) {
         printf("%s: code %u, expected %u%s\n", what, got, code, memcmp(&expected, &g, sizeof g) ? ", and the group differs" : "");
         bad = 1;
@@ -44,6 +44,6 @@ int main(void)
     asked("no tick left", 0, 1, 3, 0, 0);
     asked("no tick left before a second event", 0, 63, 3, 0, 0);
     if (!bad)
-        puts("ok");
+        puts("lent group from C: ok");
     return bad;
 }

@@ -1,22 +1,17 @@
-/* Asks a station's list for its mask: lists of 0, 1, 16 and 17 groups, every position alone, and the refusals in their order. Prints ok. */
+/* Asks a station's list for its mask: lists of 0, 1, 16 and 17 groups, every position alone, and the refusals in their order. */
+#include "ferrulebee.h"
+
 #include <stdio.h>
 #include <string.h>
-#include "group.h"
 
-typedef struct {
-    uint32_t code, mask;
-} MaskAnswer;
-
-MaskAnswer mask(const Group *gs, size_t n, uint32_t model, uint32_t sheet);
-
-static Group gs[17];
+static ferrulebee_group gs[17];
 static int bad;
 
 static void asked(const char *what, size_t n, uint32_t model, uint32_t sheet, uint32_t code, uint32_t expected)
 {
-    Group was[17];
+    ferrulebee_group was[17];
     memcpy(was, gs, sizeof gs);
-    MaskAnswer a = mask(gs, n, model, sheet);
+    ferrulebee_mask_answer a = ferrulebee_mask(gs, n, model, sheet);
     if (a.code != code || a.mask != expected || memcmp(was, gs, sizeof gs)) {
         printf("%s: code %u mask %u, expected %u %u\n", what, a.code, a.mask, code, expected);
         bad = 1;
@@ -48,6 +43,6 @@ int main(void)
     asked("every position", 16, 0, 0, 0, 0xffff);
     asked("the first only", 1, 0, 0, 0, 1);
     if (!bad)
-        puts("ok");
+        puts("station from C: ok");
     return bad;
 }

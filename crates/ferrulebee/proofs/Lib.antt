@@ -1,2 +1,3 @@
 -- What the promises of the exported calls fix.
+pub mod Parts
 pub mod Promise

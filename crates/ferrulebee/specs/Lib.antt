@@ -1,1 +1,4 @@
+pub mod Delivered
 pub mod Judge
+pub mod Part
+pub mod Read

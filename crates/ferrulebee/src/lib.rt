@@ -1,4 +1,10 @@
-// The gate for C: plain numbers and slices in, one number out.
+// The gate for C. Each export is its call with the same promise; enums and parts of lists cross as numbers.
+// Here the judge: plain numbers and slices in, one number out.
+mod book_calls;
+mod deliver;
+mod gate;
+mod part;
+
 ghost use mathlib.Core.Path.{_≡_};
 ghost use Prim.Native.Nat.{_+_, _*_, _/_, _^_, _<_, _≤_};
 ghost use lib.ListN.{length};

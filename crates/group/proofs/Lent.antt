@@ -1,5 +1,5 @@
 -- A group lent and changed where it stands: the proof of every function `fn f_at(g: &mut Group, a: u32, b: u32) -> u32` whose body is
--- `let asked = (*g).f(a, b); *g = asked.group; asked.code`, once for all of them. #f is the name of the method method that it calls, and f the
+-- `let asked = (*g).f(a, b); *g = asked.group; asked.code`, once for all of them. #f is the name of the method that it calls, and f the
 -- definition that the method's promise names. The group is copied out and back whole, so the walk names no field of it. Assumes nothing.
 use mathlib.Core.Path.{_≡_, refl, ap}
 use Prim.Native.Nat.{ℕ, _<_, _^_}

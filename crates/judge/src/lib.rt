@@ -1,5 +1,5 @@
 // The history judge: from a model's strip, a sheet's strip and now, whether the formula grants, since which moment or for which cause not.
-mod evidence;
+pub mod evidence;
 mod scan;
 
 ghost use mathlib.Core.Path.{_≡_};

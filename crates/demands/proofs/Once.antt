@@ -1,0 +1,102 @@
+-- "Each public call's promise determines its answer and every lent byte afterwards": two answers that meet a promise are equal. Where a call is lent
+-- something that it may change, an answer here is the pair of what it returns and of what it leaves there. Assumes nothing.
+use mathlib.Core.Path.{_≡_, sym, _∙_}
+use mathlib.Core.List.{List}
+use Prim.Native.Nat.{ℕ}
+use lib.ListN.{length}
+use denote.Ref.{RefT}
+use Rattle.book.specs.Read.{bookRead, listRead}
+use Rattle.book.specs.Tick.{tickPart, tickStart, wordAt}
+use Rattle.book.specs.Write.{bookWritten, bufferWritten}
+use Rattle.book.specs.declared.BookRead.{BookRead}
+use Rattle.book.specs.declared.BookWritten.{BookWritten}
+use Rattle.event.specs.Word.{tickOf, kindOf, numberOf as carrierOf}
+use Rattle.formula.specs.Answer.{numberOf, valueOf}
+use Rattle.formula.specs.declared.Verdict.{Verdict}
+use Rattle.ferrulebee.specs.Judge.{packed, judgedFrom}
+use Rattle.gather.specs.Gather.{gathered, gatheredEnd}
+use Rattle.group.specs.Close.{closeAnswer}
+use Rattle.group.specs.Count.{countAnswer}
+use Rattle.group.specs.Fresh.{freshAnswer}
+use Rattle.group.specs.Read.{Reads}
+use Rattle.group.specs.Request.{requestAnswer}
+use Rattle.group.specs.declared.Answer.{Answer}
+use Rattle.group.specs.declared.CountAnswer.{CountAnswer}
+use Rattle.group.specs.declared.Group.{Group}
+use Rattle.group.specs.declared.ReadAnswer.{ReadAnswer}
+use Rattle.judge.specs.Judge.{judgedBy}
+use Rattle.judge.proofs.Promise.{Meets, one-evidence}
+use Rattle.station.specs.Mask.{maskAnswer}
+use Rattle.station.specs.declared.MaskAnswer.{MaskAnswer}
+use Rattle.store.specs.declared.Delivery.{Delivery}
+use Rattle.store.proofs.Once.{Promised}
+use Rattle.strip.specs.declared.Side.{Side}
+use Rattle.strip.specs.Good.{firstBad}
+
+-- at most one thing is as promised
+abbrev pub Once : (A : Type 0) → (A → Type 0) → Type 0
+Once A P = (r t : A) → P r → P t → r ≡ t
+
+pub record PromisesDetermine : Type 0 where
+  -- the group
+  pub fresh : (number : ℕ) → Once Answer (λ r. r ≡ freshAnswer number)
+  pub request : (g : Group) (kind n : ℕ) → Once Answer (λ r. r ≡ requestAnswer g kind n)
+  pub request-at : (g : Group) (kind n : ℕ) → Once (ℕ × Group) (λ r. (r .0 ≡ requestAnswer g kind n .code) × (r .1 ≡ requestAnswer g kind n .group))
+  pub close : (g : Group) → Once Answer (λ r. r ≡ closeAnswer g)
+  pub read : (g : Group) (m s : ℕ) → Once ReadAnswer (Reads g m s)
+  pub models : (g : Group) (s : ℕ) → Once CountAnswer (λ r. r ≡ countAnswer g s)
+  -- the station
+  pub mask : (gs : List Group) (m s : ℕ) → Once MaskAnswer (λ r. r ≡ maskAnswer gs m s)
+  -- the judge, on words and from C, and its evidence: the same words at the same place
+  pub judge : (m s : List ℕ) (now : ℕ) → Once Verdict (λ r. r ≡ judgedBy m s now)
+  pub judge-bytes : (m s : List ℕ) (now : ℕ) → Once ℕ (λ r. r ≡ packed (judgedFrom m s now))
+  pub evidence : (m s : RefT (List ℕ)) (now : ℕ) (r t : RefT (List ℕ)) → Meets m s now r → Meets m s now t → (r .now ≡ t .now) × (r .ptr ≡ t .ptr)
+  -- a delivery, with its buffer
+  pub delivery : (grants : List ℕ) (m : ℕ) (store out : List ℕ) → Once (Delivery × List ℕ) (λ r. Promised grants m store out (r .0) (r .1))
+  -- the book: reader with its word list, writer with its buffer, and the records of one tick: the same words at the same place
+  pub reader : (b list : List ℕ) → Once (BookRead × List ℕ) (λ r. (r .0 ≡ bookRead b (length list)) × (r .1 ≡ listRead b list))
+  pub writer : (T n : ℕ) (ws buffer : List ℕ)
+      → Once (BookWritten × List ℕ) (λ r. (r .0 ≡ bookWritten T n ws (length buffer)) × (r .1 ≡ bufferWritten T n ws buffer))
+  pub tick-part : (ws : RefT (List ℕ)) (t : ℕ)
+      → Once (List ℕ × (ℕ × ℕ)) (λ r. (r .0 ≡ tickPart (ws .now) t) × (r .1 ≡ wordAt ws (tickStart (ws .now) t)))
+  -- strips: the first bad place, and a carrier's strip gathered into a list
+  pub first-bad : (side : Side) (now : ℕ) (s : List ℕ) → Once ℕ (λ r. r ≡ firstBad side now s)
+  pub gather : (words : List ℕ) (side : Side) (n : ℕ) (out : List ℕ) (at : ℕ)
+      → Once (ℕ × List ℕ) (λ r. (r .0 ≡ gatheredEnd words side n out at) × (r .1 ≡ gathered words side n out at))
+  -- the numbers of a verdict, and the parts of an event word
+  pub number : (v : Verdict) → Once ℕ (λ r. r ≡ numberOf v)
+  pub value : (v : Verdict) → Once ℕ (λ r. r ≡ valueOf v)
+  pub word : (w : ℕ) → Once (ℕ × ℕ × ℕ) (λ r. (r .0 ≡ tickOf w) × (r .1 ≡ kindOf w) × (r .2 ≡ carrierOf w))
+
+-- what equals a definition
+module _ {A : Type 0} where
+  one : (definition : A) → Once A (λ r. r ≡ definition)
+  one d r t p q = p ∙ sym q
+
+-- what equals two, part by part
+module _ {A B : Type 0} where
+  two : (a : A) (b : B) → Once (A × B) (λ r. (r .0 ≡ a) × (r .1 ≡ b))
+  two a b r t p q = λ i. ((p .0 ∙ sym (q .0)) i, (p .1 ∙ sym (q .1)) i)
+
+pub promises-determine : PromisesDetermine
+promises-determine = record {
+  fresh = λ number. one (freshAnswer number);
+  request = λ g kind n. one (requestAnswer g kind n);
+  request-at = λ g kind n. two (requestAnswer g kind n .code) (requestAnswer g kind n .group);
+  close = λ g. one (closeAnswer g);
+  read = λ g m s r t p q. p .answer ∙ sym (q .answer);
+  models = λ g s. one (countAnswer g s);
+  mask = λ gs m s. one (maskAnswer gs m s);
+  judge = λ m s now. one (judgedBy m s now);
+  judge-bytes = λ m s now. one (packed (judgedFrom m s now));
+  evidence = one-evidence;
+  delivery = λ grants m store out. two _ _;
+  reader = λ b list. two (bookRead b (length list)) (listRead b list);
+  writer = λ T n ws buffer. two (bookWritten T n ws (length buffer)) (bufferWritten T n ws buffer);
+  tick-part = λ ws t. two (tickPart (ws .now) t) (wordAt ws (tickStart (ws .now) t));
+  first-bad = λ side now s. one (firstBad side now s);
+  gather = λ words side n out at. two (gatheredEnd words side n out at) (gathered words side n out at);
+  number = λ v. one (numberOf v);
+  value = λ v. one (valueOf v);
+  word = λ w r t p q i. ((p .0 ∙ sym (q .0)) i, (p .1 ∙ sym (q .1)) i, (p .2 ∙ sym (q .2)) i);
+}

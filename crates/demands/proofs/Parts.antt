@@ -1,0 +1,157 @@
+-- A delivery's reader finds the granted sheets, each with the store's bytes. Assumes nothing.
+use mathlib.Core.Path.{_≡_, refl, sym, ap, ap₂, _∙_, subst}
+use mathlib.Core.Bool.{Bool, true, false, not, cond}
+use mathlib.Core.List.{List, [], _∷_, _++_, append-assoc, map}
+use mathlib.Core.Logic.{_↔_}
+use Prim.Native.Nat.{ℕ, suc, _+_, _≤_, _<_}
+use native.Mathlib.Omega.{arith}
+use lib.Dec.{leb, ltb}
+use lib.ListN.{length, getD, take, drop, length-append, length-drop}
+use lib.Seq.{drop-at, take-at, length-take-le}
+use borrow.Author.Tests.{leb-false, ltb-false, not-false}
+use Rattle.base.proofs.First.{first-le}
+use Rattle.rules.specs.Ranges.{models, sheets}
+use Rattle.rules.specs.Refusals.{badNumber, badStore, deliveryTooLong}
+use Rattle.wire.specs.Word.{le32, bytes32}
+use Rattle.wire.proofs.Word.{length-bytes32}
+use Rattle.store.specs.Answer.{answer, written, bufferAfter}
+use Rattle.store.specs.Delivery.{part, parts, sheetBytes, deliveryLength, deliveryOf, grantedSheets}
+use Rattle.store.specs.Entry.{offset, sheetLength}
+use Rattle.store.specs.Fault.{faulty, firstFaulty}
+use Rattle.store.specs.Granted.{granted}
+use Rattle.store.specs.Listed.{listed, Exactly}
+use Rattle.store.specs.Ready.{Ready}
+use Rattle.store.specs.Store.{goodStore}
+use Rattle.store.specs.declared.Delivery.{Delivery}
+use Rattle.store.specs.declared.Delivery.the-variants.{Delivered, Refused}
+use Rattle.store.proofs.Entry.{sound}
+use Rattle.store.proofs.Fault.{fault-free}
+use Rattle.store.proofs.Head.{read-first, read-second, drop-head}
+use Rattle.store.proofs.Listed.{granted-exactly, delivery-count, delivery-total, delivery-lists, delivered-exactly}
+use Rattle.store.proofs.Parts.{length-part}
+use Rattle.store.proofs.Store.{good}
+use Rattle.demands.specs.Delivered.{partsOf, partsIn, stored, Holds}
+
+-- ---- what `Delivered` tells
+
+-- the answer, over any tests: it is `Delivered` where none of the lines is met
+record Passed (a b c d : Bool) (n k : ℕ) : Type 0 where
+  number : a ≡ false
+  store : b ≡ false
+  sheet : c ≡ false
+  room : d ≡ false
+  total : n ≡ k
+
+apart : _≡_ {A = ℕ} 0 1 → ⊥
+apart e = omega arith
+
+passed : (a b c d : Bool) (x y n k : ℕ)
+    → cond a (Refused badNumber 0) (cond b (Refused badStore 0) (cond c (Refused x y) (cond d (Refused deliveryTooLong 0) (Delivered n)))) ≡ Delivered k → Passed a b c d n k
+passed true b c d x y n k e = absurd (apart (cc e))
+passed false true c d x y n k e = absurd (apart (cc e))
+passed false false true d x y n k e = absurd (apart (cc e))
+passed false false false true x y n k e = absurd (apart (cc e))
+passed false false false false x y n k e = record { number = refl; store = refl; sheet = refl; room = refl; total = cc e }
+
+module _ (grants : List ℕ) (m : ℕ) (store : List ℕ) where
+  abbrev ss : List ℕ
+  ss = grantedSheets grants m
+
+  delivered-passed : (room k : ℕ) → answer grants m store room ≡ Delivered k
+      → Passed (leb models m) (not (goodStore store)) (ltb (firstFaulty grants m store) sheets) (ltb room (deliveryLength store ss)) (deliveryLength store ss) k
+  unfolding answer
+  delivered-passed room k e = passed _ _ _ _ _ _ _ k e
+
+  delivered-ready : (room k : ℕ) → answer grants m store room ≡ Delivered k → Ready grants m store
+  delivered-ready room k e =
+      let p = delivered-passed room k e in
+      let past = ltb-false (firstFaulty grants m store) sheets (p .sheet) in
+      record {
+        known = leb-false models m (p .number);
+        taken = not-false (goodStore store) (p .store);
+        sound = omega (arith, first-le (faulty grants m store) sheets);
+      }
+
+-- ---- the parts, as the reader finds them
+
+-- a part, whatever follows, is two words and what follows them
+part-headed : (b : List ℕ) (s : ℕ) (rest : List ℕ) → part b s ++ rest ≡ bytes32 s ++ (bytes32 (sheetLength b s) ++ (sheetBytes b s ++ rest))
+unfolding part
+part-headed b s rest = simp append-assoc
+
+length-sheet : (b : List ℕ) (s : ℕ) → offset b s + sheetLength b s ≤ length b → length (sheetBytes b s) ≡ sheetLength b s
+unfolding sheetBytes
+length-sheet b s h = length-take-le (sheetLength b s) (drop (offset b s) b) (simp length-drop (omega arith))
+
+parts-found : (b ss rest : List ℕ) → ((i : ℕ) → i < length ss → offset b (getD ss i 0) + sheetLength b (getD ss i 0) ≤ length b)
+    → partsOf (parts b ss ++ rest) (length ss) ≡ map (stored b) ss
+unfolding partsOf parts
+parts-found b [] rest h = refl
+parts-found b (s ∷ ss) rest h =
+    let d : List ℕ = (part b s ++ parts b ss) ++ rest in
+    let after : List ℕ = parts b ss ++ rest in
+    let split : d ≡ part b s ++ after = append-assoc (part b s) (parts b ss) rest in
+    let form : d ≡ bytes32 s ++ (bytes32 (sheetLength b s) ++ (sheetBytes b s ++ after)) = split ∙ part-headed b s after in
+    let number : le32 d 0 ≡ s = ap (λ (l : List ℕ). le32 l 0) form ∙ read-first s (sheetLength b s) _ in
+    let long : le32 d 4 ≡ sheetLength b s = ap (λ (l : List ℕ). le32 l 4) form ∙ read-second s (sheetLength b s) _ in
+    let body : drop 8 d ≡ sheetBytes b s ++ after = ap (drop 8) form ∙ drop-head s (sheetLength b s) (sheetBytes b s ++ after) in
+    let held : take (le32 d 4) (drop 8 d) ≡ sheetBytes b s =
+    ap₂ take long body ∙ take-at (sheetBytes b s) after (sheetLength b s) (length-sheet b s (h 0 (omega arith))) in
+    let next : drop (8 + le32 d 4) d ≡ after =
+    ap₂ (λ (k : ℕ) (l : List ℕ). drop (8 + k) l) long split ∙ drop-at (part b s) after (8 + sheetLength b s) (length-part b s (h 0 (omega arith))) in
+    ap₂ _∷_
+    (λ i. record { number = number i; bytes = held i })
+    (ap (λ (l : List ℕ). partsOf l (length ss)) next ∙ parts-found b ss rest (λ i l. h (suc i) (omega arith)))
+
+-- ---- a delivery
+
+module _ (grants : List ℕ) (m : ℕ) (store rest : List ℕ) (ready : Ready grants m store) where
+  abbrev mine : List ℕ
+  mine = grantedSheets grants m
+
+  -- the bytes of a granted sheet lie in the store
+  inside : (i : ℕ) → i < length mine → offset store (getD mine i 0) + sheetLength store (getD mine i 0) ≤ length store
+  inside i h =
+      let so = granted-exactly grants m .only i h in
+      let entry = sound store (getD mine i 0) (fault-free grants m store _ (ready .sound) (so .0) (so .1)) in
+      omega (arith, entry .within, good store (ready .taken) .total)
+
+  behind : drop 8 (deliveryOf store mine ++ rest) ≡ parts store mine ++ rest
+  behind = ap (drop 8) headed ∙ drop-head (length mine) (deliveryLength store mine) (parts store mine ++ rest)
+    where
+      headed : deliveryOf store mine ++ rest ≡ bytes32 (length mine) ++ (bytes32 (deliveryLength store mine) ++ (parts store mine ++ rest))
+      headed = simp append-assoc
+
+  delivery-parts : partsIn (deliveryOf store mine ++ rest) ≡ map (stored store) (listed (deliveryOf store mine ++ rest))
+  delivery-parts =
+      ap₂ partsOf behind (delivery-count store mine rest)
+      ∙ parts-found store mine rest inside
+      ∙ ap (map (stored store)) (sym (delivery-lists grants m store rest ready))
+
+-- Where the grants say P, a delivery that is answered `Delivered` holds what one may have by P.
+module _ (grants : List ℕ) (m : ℕ) (P : ℕ → Type 0) (says : (s : ℕ) → s < sheets → (granted grants m s ≡ true) ↔ P s) (store out : List ℕ) (n : ℕ) where
+  abbrev given : List ℕ
+  given = deliveryOf store (grantedSheets grants m)
+
+  length-given : length given ≡ deliveryLength store (grantedSheets grants m)
+  length-given = simp (length-append, length-bytes32) (omega arith)
+
+  given-holds : Ready grants m store → deliveryLength store (grantedSheets grants m) ≡ n → Holds P store out n (given ++ drop n out)
+  given-holds ready e =
+      let d : List ℕ = given ++ drop n out in
+      let exactly : Exactly grants m (listed d) = delivered-exactly grants m store (drop n out) ready in
+      record {
+        only = λ i l. let so = exactly .only i l in (so .0, says (getD (listed d) i 0) (so .0) .0 (so .1));
+        every = λ s l p. exactly .every s l (says s l .1 p);
+        rising = exactly .rising;
+        unaltered = delivery-parts grants m store (drop n out) ready;
+        count = delivery-count store (grantedSheets grants m) (drop n out) ∙ ap length (sym (delivery-lists grants m store (drop n out) ready));
+        total = delivery-total store (grantedSheets grants m) (drop n out) ∙ e;
+        beyond = drop-at given (drop n out) n (length-given ∙ e);
+      }
+
+  pub delivered-holds : answer grants m store (length out) ≡ Delivered n → Holds P store out n (bufferAfter grants m store out)
+  delivered-holds e =
+      let left : bufferAfter grants m store out ≡ given ++ drop n out = ap (λ (x : Delivery). written x given out) e in
+      subst (Holds P store out n) (sym left)
+      (given-holds (delivered-ready grants m store (length out) n e) (delivered-passed grants m store (length out) n e .total))

@@ -1,0 +1,138 @@
+-- The judge's refusals, line by line. Assumes nothing.
+use mathlib.Core.Path.{_≡_, refl, ap, sym, _∙_}
+use mathlib.Core.Bool.{Bool, true, false, not, cond, or-false}
+use mathlib.Core.List.{List, [], _∷_, _++_}
+use Prim.Native.Nat.{ℕ, _+_, _*_, _/_, _%_, _^_, _≤_}
+use native.Mathlib.Omega.{arith}
+use lib.Dec.{eqb, ltb, leb}
+use lib.ListN.{length}
+use borrow.Author.Tests.{leb-true, le-ltb, not-false}
+use Rattle.base.specs.First.{first}
+use Rattle.rules.specs.Kinds.{SL}
+use Rattle.rules.specs.Ranges.{ticks, events}
+use Rattle.rules.specs.Refusals.{lateNow, longModel, longSheet, badModel, badSheet}
+use Rattle.formula.specs.Formula.{History}
+use Rattle.formula.specs.Ticks.{byAdd, grant}
+use Rattle.formula.specs.Verdict.{latest, earliest, granted, denied, verdict}
+use Rattle.formula.specs.declared.Verdict.{Verdict}
+use Rattle.formula.specs.declared.Verdict.the-variants.{Granted, Denied, Refused}
+use Rattle.formula.specs.declared.Moment.the-variants.{Add, Join}
+use Rattle.formula.specs.declared.Cause.the-variants.{None, StrictLeave, StrictRemove}
+use Rattle.strip.specs.declared.Side.{Side}
+use Rattle.strip.specs.declared.Side.the-variants.{Model, Sheet}
+use Rattle.strip.specs.Good.{goodPlace, firstBad}
+use Rattle.strip.specs.History.{historyOf}
+use Rattle.judge.specs.Evidence.{evidenceOf}
+use Rattle.judge.specs.Judge.{judgedBy}
+use Rattle.wire.proofs.Words.{length-words}
+use Rattle.store.proofs.Store.{both}
+use Rattle.ferrulebee.specs.Judge.{stripOf, wholeStrip, packed, judgedFrom}
+use Rattle.demands.specs.Lines.{Refusal, at, plain, none, Line, line, firstMet, Refuses}
+use Rattle.demands.specs.Refusals.{stripLines, judgeLines, bytesLines, refusedVerdict}
+use Rattle.demands.proofs.Lines.{any, first-each, first-each-last}
+
+-- a verdict of two histories is no refusal
+answered : (model sheet : History) (now : ℕ) → refusedVerdict (verdict model sheet now) ≡ none
+unfolding verdict granted denied
+answered model sheet now =
+    go (grant model sheet now) (byAdd model sheet (latest model sheet now)) (eqb (latest model sheet now) 0)
+    (eqb (model (earliest model sheet (latest model sheet now) now)) SL) (latest model sheet now)
+  where
+    go : (g b n l : Bool) (t : ℕ)
+        → refusedVerdict (cond g (cond b (Granted (Add t)) (Granted (Join t))) (cond n (Denied None) (cond l (Denied StrictLeave) (Denied StrictRemove)))) ≡ none
+    go true true n l t = refl
+    go true false n l t = refl
+    go false b true l t = refl
+    go false b false true t = refl
+    go false b false false t = refl
+
+-- ---- the strips
+
+module _ (side : Side) (now : ℕ) (s : List ℕ) (number : ℕ) where
+  abbrev bad : ℕ → Bool
+  bad i = not (goodPlace side now s i)
+
+  bad-met : (i : ℕ) → any (line (bad i) (at number i) ∷ []) ≡ bad i
+  unfolding any
+  bad-met i = or-false (bad i)
+
+  bad-told : (i : ℕ) → bad i ≡ true → firstMet (line (bad i) (at number i) ∷ []) ≡ at number i
+  unfolding firstMet
+  bad-told i t = simp t
+
+  strip-first : (rest : List Line)
+      → firstMet (stripLines side now s number ++ rest) ≡ cond (ltb (firstBad side now s) (length s)) (at number (firstBad side now s)) (firstMet rest)
+  unfolding firstBad
+  strip-first rest = first-each (λ i. line (bad i) (at number i) ∷ []) bad (at number) bad-met bad-told (length s) rest
+
+  strip-last : firstMet (stripLines side now s number) ≡ cond (ltb (firstBad side now s) (length s)) (at number (firstBad side now s)) none
+  unfolding firstBad
+  strip-last = first-each-last (λ i. line (bad i) (at number i) ∷ []) bad (at number) bad-met bad-told (length s)
+
+module _ (m s : List ℕ) (now : ℕ) where
+  strips-first : firstMet (stripLines Model now m badModel ++ stripLines Sheet now s badSheet)
+      ≡ cond (ltb (firstBad Model now m) (length m)) (at badModel (firstBad Model now m))
+      (cond (ltb (firstBad Sheet now s) (length s)) (at badSheet (firstBad Sheet now s)) none)
+  strips-first =
+      strip-first Model now m badModel (stripLines Sheet now s badSheet)
+      ∙ ap (λ (r : Refusal). cond (ltb (firstBad Model now m) (length m)) (at badModel (firstBad Model now m)) r) (strip-last Sheet now s badSheet)
+
+-- ---- the judge
+
+-- 13 and 14, or a verdict
+strips-order : (d e : Bool) (x y : ℕ) (v : Verdict) → refusedVerdict v ≡ none
+    → refusedVerdict (cond d (Refused badModel x) (cond e (Refused badSheet y) v)) ≡ cond d (at badModel x) (cond e (at badSheet y) none)
+strips-order true e x y v a = refl
+strips-order false true x y v a = refl
+strips-order false false x y v a = a
+
+-- 10, 11 and 12 before
+judge-order : (a b c : Bool) (v : Verdict) (rest : List Line) → (a ≡ false → b ≡ false → c ≡ false → refusedVerdict v ≡ firstMet rest)
+    → refusedVerdict (cond a (Refused lateNow 0) (cond b (Refused longModel 0) (cond c (Refused longSheet 0) v)))
+    ≡ firstMet (line a (plain lateNow) ∷ line b (plain longModel) ∷ line c (plain longSheet) ∷ rest)
+unfolding firstMet
+judge-order true b c v rest e = refl
+judge-order false true c v rest e = refl
+judge-order false false true v rest e = refl
+judge-order false false false v rest e = e refl refl refl
+
+module _ (m s : List ℕ) (now : ℕ) where
+  strips-told : refusedVerdict (cond (ltb (firstBad Model now m) (length m)) (Refused badModel (firstBad Model now m))
+      (cond (ltb (firstBad Sheet now s) (length s)) (Refused badSheet (firstBad Sheet now s)) (verdict (historyOf m) (historyOf s) now)))
+      ≡ firstMet (stripLines Model now m badModel ++ stripLines Sheet now s badSheet)
+  strips-told =
+      strips-order (ltb (firstBad Model now m) (length m)) (ltb (firstBad Sheet now s) (length s)) (firstBad Model now m) (firstBad Sheet now s)
+      (verdict (historyOf m) (historyOf s) now) (answered (historyOf m) (historyOf s) now)
+      ∙ sym (strips-first m s now)
+
+  judge-first : refusedVerdict (judgedBy m s now) ≡ firstMet (judgeLines m s now)
+  judge-first = judge-order (ltb ticks now) (ltb events (length m)) (ltb events (length s)) _ _ (λ a b c. strips-told)
+
+-- a refused verdict has no evidence, and goes to C as its number and place
+no-evidence : (v : Verdict) (m s : List ℕ) → (refusedVerdict v .number ≡ 0 → ⊥) → evidenceOf v m s ≡ []
+no-evidence (Granted moment) m s r = absurd (r refl)
+no-evidence (Denied cause) m s r = absurd (r refl)
+no-evidence (Refused number place) m s r = refl
+
+packed-refusal : (v : Verdict) → (refusedVerdict v .number ≡ 0 → ⊥) → packed v ≡ refusedVerdict v .number * 2 ^ 32 + refusedVerdict v .place
+packed-refusal (Granted moment) r = absurd (r refl)
+packed-refusal (Denied cause) r = absurd (r refl)
+packed-refusal (Refused number place) r = refl
+
+whole-short : (b : List ℕ) → wholeStrip (length b) ≡ true → length (stripOf b) ≤ events
+whole-short b w =
+    let few : length b ≤ 4 * events = leb-true _ _ (both (eqb (length b % 4) 0) (leb (length b) (4 * events)) w .1) in
+    omega (arith, length-words b (length b / 4))
+
+module _ (m s : List ℕ) (now : ℕ) where
+  pub judge-refuses : Refuses (judgeLines m s now) (refusedVerdict (judgedBy m s now)) (evidenceOf (judgedBy m s now) m s ≡ [])
+  judge-refuses = record { first = judge-first m s now; unchanged = no-evidence (judgedBy m s now) m s }
+
+  -- whole words, and not too many, are a strip that is not too long
+  bytes-first : refusedVerdict (judgedFrom m s now) ≡ firstMet (bytesLines m s now)
+  bytes-first = judge-order (ltb ticks now) (not (wholeStrip (length m))) (not (wholeStrip (length s))) _ _
+      (λ a b c. simp (a, le-ltb _ _ (whole-short m (not-false _ b)), le-ltb _ _ (whole-short s (not-false _ c))) (strips-told (stripOf m) (stripOf s) now))
+
+  pub bytes-refuses : Refuses (bytesLines m s now) (refusedVerdict (judgedFrom m s now))
+      (packed (judgedFrom m s now) ≡ refusedVerdict (judgedFrom m s now) .number * 2 ^ 32 + refusedVerdict (judgedFrom m s now) .place)
+  bytes-refuses = record { first = bytes-first; unchanged = packed-refusal (judgedFrom m s now) }

@@ -1,0 +1,152 @@
+-- What a model is answered, and what it sees next, depend on nothing but what it sees; a call that isn't shared shows it nothing. Assumes nothing.
+use mathlib.Core.Path.{_≡_, refl, sym, ap, ap₂, _∙_}
+use mathlib.Core.Bool.{Bool, true, false, cond, _||_}
+use mathlib.Core.List.{List}
+use mathlib.Core.Logic.{⊎-elim}
+use Prim.Native.Nat.{ℕ, _<_}
+use native.Mathlib.Omega.{arith}
+use lib.Dec.{eqb, leb}
+use lib.ListN.{length, getD}
+use borrow.Author.Tests.{ltb-true, ltb-false, eqb-true, eqb-false, ne-eqb}
+use Rattle.base.proofs.First.{either}
+use Rattle.base.proofs.Table.{getD-table}
+use Rattle.rules.specs.Kinds.{SA, LA, SR, LR, isAdd, isRemove}
+use Rattle.rules.specs.Ranges.{sheets, ticks}
+use Rattle.rules.specs.Refusals.{noTickLeft}
+use Rattle.bits.specs.Bit.{bit}
+use Rattle.group.specs.Carrier.{ofModel}
+use Rattle.group.specs.Fits.{Fits}
+use Rattle.group.specs.Read.{granted, readAnswer}
+use Rattle.group.specs.Request.{requestAnswer}
+use Rattle.group.specs.View.{View, view, viewRefusal, viewRequest, viewClose, viewRead}
+use Rattle.group.specs.declared.Group.{Group}
+use Rattle.group.proofs.Accepted.{accepted}
+use Rattle.group.proofs.Fits.{request-fits, close-fits}
+use Rattle.group.proofs.Request.{request-refused}
+use Rattle.group.proofs.View.{other-model, view-refusal, view-request, view-close, view-close-code, view-read}
+use Rattle.store.specs.Agree.{Agree}
+use Rattle.store.specs.Granted.{granted as grantedBy}
+use Rattle.store.proofs.Agree.{same-answer, same-buffer}
+use Rattle.demands.specs.Calls.{Call, request, close, read, count, deliver, coded, shown, delivered, answerTo, after}
+use Rattle.demands.specs.Alike.{forSheet, shared}
+
+-- true is not false
+never : _≡_ {A = Bool} true false → ⊥
+never e = let z : _≡_ {A = ℕ} 0 1 = cc e in omega arith
+
+neither : (x y : Bool) → x || y ≡ false → (x ≡ false) × (y ≡ false)
+neither true y e = absurd (never e)
+neither false y e = (refl, e)
+
+-- ---- whose request it is
+
+-- a model's kind is no add and no remove
+not-for-sheet : (kind : ℕ) → ofModel kind ≡ true → forSheet kind ≡ false
+not-for-sheet kind t =
+    let l : kind < SA = ltb-true _ _ t in
+    simp (
+      ne-eqb kind SA (λ e. absurd (omega arith)),
+      ne-eqb kind LA (λ e. absurd (omega arith)),
+      ne-eqb kind SR (λ e. absurd (omega arith)),
+      ne-eqb kind LR (λ e. absurd (omega arith)),
+    )
+
+-- what is neither a sheet's kind nor a model's is above 7
+no-kind : (kind : ℕ) → forSheet kind ≡ false → ofModel kind ≡ false → LR < kind
+no-kind kind f o =
+    let p = neither (isAdd kind) (isRemove kind) f in
+    let adds = neither (eqb kind SA) (eqb kind LA) (p .0) in
+    let removes = neither (eqb kind SR) (eqb kind LR) (p .1) in
+    let sa = eqb-false kind SA (adds .0) in
+    let la = eqb-false kind LA (adds .1) in
+    let sr = eqb-false kind SR (removes .0) in
+    let lr = eqb-false kind LR (removes .1) in
+    let from = ltb-false kind SA o in
+    omega arith
+
+module _ (m : ℕ) where
+  -- a shared request of a model's kind is the model's own
+  own : (kind n : ℕ) → shared m (request kind n) ≡ true → ofModel kind ≡ true → n ≡ m
+  unfolding shared
+  own kind n s t = eqb-true n m (simp (not-for-sheet kind t) at s)
+
+  -- ---- what isn't shared
+
+  other-request : (g : Group) (kind n : ℕ) → shared m (request kind n) ≡ false → view m (requestAnswer g kind n .group) ≡ view m g
+  unfolding shared
+  other-request g kind n f =
+      let p = neither (forSheet kind) (eqb n m) f in
+      ⊎-elim
+      (λ (t : ofModel kind ≡ true). other-model m g kind n t (λ e. eqb-false n m (p .1) (sym e)))
+      (λ (o : ofModel kind ≡ false).
+      let above = no-kind kind (p .0) o in
+      ap (view m) (request-refused g kind n (λ e. omega (arith, accepted g kind n e .known))))
+      (either (ofModel kind))
+
+  pub unseen : (g : Group) (c : Call) → shared m c ≡ false → view m (after g c) ≡ view m g
+  unfolding shared after
+  unseen g (request kind n) f = other-request g kind n f
+  unseen g close f = absurd (never f)
+  unseen g (read n s) f = refl
+  unseen g (count s) f = refl
+  unseen g (deliver n store out) f = refl
+
+  -- ---- what is shared
+
+  module _ (g h : Group) (alike : view m g ≡ view m h) where
+    -- the model's bits are seen, so stores that agree on its grants in one group agree on those of the other
+    bit-seen : (x : Group) (s : ℕ) → s < sheets → getD (view m x .grants) s false ≡ grantedBy (x .grants) m s
+    unfolding view granted grantedBy bit
+    bit-seen x s l = getD-table sheets (λ s. granted x m s) s false l
+
+    same-bits : (s : ℕ) → s < sheets → grantedBy (g .grants) m s ≡ grantedBy (h .grants) m s
+    same-bits s l = sym (bit-seen g s l) ∙ ap (λ (v : View). getD (v .grants) s false) alike ∙ bit-seen h s l
+
+    across : (b b′ : List ℕ) → Agree (g .grants) (g .grants) m b b′ → Agree (g .grants) (h .grants) m b b′
+    across b b′ a = record { bits = same-bits; long = a .long; header = a .header; offsets = a .offsets; lengths = a .lengths; bytes = a .bytes }
+
+    self : (b : List ℕ) → Agree (g .grants) (g .grants) m b b
+    self b = record {
+      bits = λ s l. refl;
+      long = refl;
+      header = refl;
+      offsets = λ s l t i. refl;
+      lengths = λ s l t i. refl;
+      bytes = λ s l t i. refl;
+    }
+
+    pub same-delivery : (b b′ out : List ℕ) → Agree (g .grants) (g .grants) m b b′ → answerTo g (deliver m b out) ≡ answerTo h (deliver m b′ out)
+    unfolding answerTo
+    same-delivery b b′ out a =
+        let x = across b b′ a in
+        ap₂ delivered (same-answer (g .grants) (h .grants) m b b′ x (length out)) (same-buffer (g .grants) (h .grants) m b b′ x out)
+
+    same-read : (s : ℕ) → readAnswer g m s ≡ readAnswer h m s
+    same-read s = view-read m g s ∙ ap (λ (v : View). viewRead m v s) alike ∙ sym (view-read m h s)
+
+    pub same-answers : (c : Call) → shared m c ≡ true → answerTo g c ≡ answerTo h c
+    unfolding shared answerTo
+    same-answers (request kind n) t =
+        ap coded (view-refusal m g kind n (own kind n t) ∙ ap (λ (v : View). viewRefusal v kind n) alike ∙ sym (view-refusal m h kind n (own kind n t)))
+    same-answers close t = ap coded (view-close-code m g ∙ ap (λ (v : View). cond (leb ticks (v .closed)) noTickLeft 0) alike ∙ sym (view-close-code m h))
+    same-answers (read n s) t = rw (eqb-true n m t) (ap shown (same-read s))
+    same-answers (count s) t = absurd (never (sym t))
+    same-answers (deliver n store out) t = rw (eqb-true n m t) (same-delivery store store out (self store))
+
+    pub same-after : Fits g → Fits h → (c : Call) → shared m c ≡ true → view m (after g c) ≡ view m (after h c)
+    unfolding after
+    same-after zg zh (request kind n) t =
+        view-request m g kind n (own kind n t) ∙ ap (λ (v : View). viewRequest m v kind n) alike ∙ sym (view-request m h kind n (own kind n t))
+    same-after zg zh close t = view-close m g zg ∙ ap viewClose alike ∙ sym (view-close m h zh)
+    same-after zg zh (read n s) t = alike
+    same-after zg zh (count s) t = alike
+    same-after zg zh (deliver n store out) t = alike
+
+-- every group that calls reach from one that a machine holds is one that it holds
+pub after-fits : (g : Group) → Fits g → (c : Call) → Fits (after g c)
+unfolding after
+after-fits g z (request kind n) = request-fits g kind n z
+after-fits g z close = close-fits g z
+after-fits g z (read n s) = z
+after-fits g z (count s) = z
+after-fits g z (deliver n store out) = z

@@ -1,0 +1,90 @@
+// The running gate for C: a group goes in by value and comes back by value.
+ghost use mathlib.Core.Path.{_≡_};
+ghost use Rattle.group.specs.Fresh.{freshAnswer};
+ghost use Rattle.group.specs.Request.{requestAnswer};
+ghost use Rattle.group.specs.Close.{closeAnswer};
+ghost use Rattle.group.specs.Read.{readAnswer};
+ghost use Rattle.group.specs.Count.{countAnswer};
+ghost use Rattle.station.specs.Mask.{maskAnswer};
+ghost use Rattle.ferrulebee.specs.Read.{readNumbers};
+use group::Answer;
+use group::CountAnswer;
+use group::Group;
+use group::ReadAnswer;
+use station::MaskAnswer;
+
+// A read's answer in numbers: a refusal's number, or 0 with 1 for granted and 0 for denied.
+#[repr(C)]
+pub struct Read {
+    pub code: u32,
+    pub granted: u32,
+}
+
+fn numbers(answer: ReadAnswer) -> Read
+    ensures { λ r. ⌜ r ≡ readNumbers answer ⌝ }
+{
+    match answer {
+        ReadAnswer::Granted => Read {
+            code: 0,
+            granted: 1,
+        },
+        ReadAnswer::Denied => Read {
+            code: 0,
+            granted: 0,
+        },
+        ReadAnswer::Refused(code) => Read { code, granted: 0 },
+    }
+}
+
+#[no_mangle]
+pub extern "C" fn ferrulebee_fresh(number: u32) -> Answer
+    ensures { λ r. ⌜ r ≡ freshAnswer number ⌝ }
+{
+    Group::fresh(number)
+}
+
+#[no_mangle]
+pub extern "C" fn ferrulebee_request(group: Group, kind: u32, number: u32) -> Answer
+    ensures { λ r. ⌜ r ≡ requestAnswer group kind number ⌝ }
+{
+    group.request(kind, number)
+}
+
+#[no_mangle]
+pub extern "C" fn ferrulebee_close(group: Group) -> Answer
+    ensures { λ r. ⌜ r ≡ closeAnswer group ⌝ }
+{
+    group.close()
+}
+
+#[no_mangle]
+pub extern "C" fn ferrulebee_read(group: Group, model: u32, sheet: u32) -> Read
+    ensures { λ r. ⌜ r ≡ readNumbers (readAnswer group model sheet) ⌝ }
+{
+    numbers(group.read(model, sheet))
+}
+
+#[no_mangle]
+pub extern "C" fn ferrulebee_models(group: Group, sheet: u32) -> CountAnswer
+    ensures { λ r. ⌜ r ≡ countAnswer group sheet ⌝ }
+{
+    group.models(sheet)
+}
+
+// A request on a group lent and marked where it stands; a refusal leaves it as it was.
+#[no_mangle]
+pub extern "C" fn ferrulebee_request_at(g: &mut Group, kind: u32, number: u32) -> u32
+    ensures { λ r. ⌜ (r ≡ requestAnswer (now (g .entry)) kind number .code) × (now (g .exit) ≡ requestAnswer (now (g .entry)) kind number .group) ⌝ }
+{
+    let asked = (*g).request(kind, number);
+    *g = asked.group;
+    asked.code
+}
+
+// A station's groups side by side: the mask of the positions that grant.
+#[no_mangle]
+pub extern "C" fn ferrulebee_mask(gs: &[Group], model: u32, sheet: u32) -> MaskAnswer
+    ensures { λ r. ⌜ r ≡ maskAnswer (now (gs .entry)) model sheet ⌝ }
+{
+    station::mask(gs, model, sheet)
+}

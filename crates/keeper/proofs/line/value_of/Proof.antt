@@ -1,0 +1,55 @@
+use borrow.Author.Needs.{needs}
+use Prim.Native.Nat.{_≤_, _-_}
+use mathlib.Core.Path.{_≡_}
+use lib.ListN.{length}
+use Rattle.keeper.proofs.line.value_of.Statement.{statement}
+use Rattle.keeper.proofs.line.value_of.Tie as tie
+
+abbrev Inv-loop : tie.InvT-loop
+Inv-loop word value₀ i₀ i-end value i = (i ≤ i-end) × (i-end ≡ length word)
+
+abbrev μ-loop : tie.MeasureT-loop
+μ-loop word value₀ i₀ i-end value i = i-end - i
+
+loop-holds : tie.Need-loop-holds Inv-loop μ-loop
+loop-holds c = search needs
+
+mul-value : tie.Need-mul-value Inv-loop μ-loop
+mul-value c = search needs
+
+shared-slice-read-value : tie.Need-shared-slice-read-value Inv-loop μ-loop
+shared-slice-read-value c = search needs
+
+cast-value : tie.Need-cast-value Inv-loop μ-loop
+cast-value c = search needs
+
+add-value : tie.Need-add-value Inv-loop μ-loop
+add-value c = search needs
+
+add-i : tie.Need-add-i Inv-loop μ-loop
+add-i c = search needs
+
+loop-less : tie.Need-loop-less Inv-loop μ-loop
+loop-less c = search needs
+
+loop-again : tie.Need-loop-again Inv-loop μ-loop
+loop-again c = search needs
+
+returns : tie.Need-returns Inv-loop μ-loop
+returns c = search needs
+
+pub value-of-spec : {M : Type 1} → statement M
+value-of-spec =
+    tie.close
+    (tie.spec
+    Inv-loop
+    μ-loop
+    loop-holds
+    mul-value
+    shared-slice-read-value
+    cast-value
+    add-value
+    add-i
+    loop-less
+    loop-again
+    returns)

@@ -1,0 +1,43 @@
+// Files by name.
+
+// What came of a file: whether it could be opened and read, and how many bytes.
+pub struct Came {
+    pub ok: bool,
+    pub length: usize,
+}
+
+fn failed() -> Came {
+    Came {
+        ok: false,
+        length: 0,
+    }
+}
+
+// Reads a file to the front of the buffer, as far as the buffer goes.
+pub fn read(name: &[u8], buffer: &mut [u8]) -> Came {
+    let fd = os::open_read(name);
+    if fd < 0 {
+        return failed();
+    }
+    // a folder opens and can't be read
+    let mut none = [0u8; 1];
+    let asked = libc::read(fd, &mut none[0..0]);
+    if asked < 0 {
+        libc::close(fd);
+        return failed();
+    }
+    let length = io::read_full(fd, buffer);
+    libc::close(fd);
+    Came { ok: true, length }
+}
+
+// Makes or replaces a file with these bytes.
+pub fn write(name: &[u8], bytes: &[u8]) -> bool {
+    let fd = os::open_overwrite(name);
+    if fd < 0 {
+        return false;
+    }
+    let ok = io::write_all(fd, bytes);
+    libc::close(fd);
+    ok
+}

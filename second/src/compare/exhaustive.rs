@@ -1,0 +1,254 @@
+//! Every well-formed history of one model and one sheet up to 6 ticks: the formula against
+//! itself tick by tick, the group, the C library's judge, `listing` and `keeper`.
+
+use crate::books::{book_of, event};
+use crate::case::{Case, Run, Trial};
+use crate::differ::difference;
+use crate::gate;
+use crate::programs::Programs;
+use crate::progress::Progress;
+use second::event::{Event, Side};
+use second::formula::History;
+use second::group::Group;
+use second::judge::{judge, judge_bytes, verdict, Verdict};
+use std::io;
+
+const MOST_TICKS: u32 = 6;
+/// In a tick a carrier has nothing, a strict event or a liberal one.
+const CHOICES: u32 = 3;
+
+/// A strip by its code: the digits of base 3 say what the carrier has in each tick.
+fn strip(side: Side, code: u32, ticks: u32, number: u32) -> Vec<Event> {
+    let mut strip = Vec::new();
+    let (mut is_in, mut rest) = (false, code);
+    for tick in 1..=ticks {
+        if rest % CHOICES > 0 {
+            strip.push(event(side, tick, is_in, rest % CHOICES == 2, number));
+            is_in = !is_in;
+        }
+        rest /= CHOICES;
+    }
+    strip
+}
+
+fn strips(side: Side, ticks: u32) -> Vec<Vec<Event>> {
+    (0..CHOICES.pow(ticks)).map(|code| strip(side, code, ticks, 0)).collect()
+}
+
+fn words(strip: &[Event]) -> Vec<u32> {
+    strip.iter().map(|event| event.word()).collect()
+}
+
+fn bytes(words: &[u32]) -> Vec<u8> {
+    words.iter().flat_map(|word| word.to_le_bytes()).collect()
+}
+
+/// Compares everything; the first case that differs is given back.
+pub fn exhaustive(programs: &Programs) -> io::Result<Option<Case>> {
+    println!("exhaustive: {}", gate::notice());
+    if let Some(case) = in_process() {
+        return Ok(Some(case));
+    }
+    if programs.listing.is_some() {
+        if let Some(case) = by_listing(programs)? {
+            return Ok(Some(case));
+        }
+    }
+    if programs.keeper.is_some() {
+        return by_keeper(programs);
+    }
+    Ok(None)
+}
+
+fn in_process() -> Option<Case> {
+    let total = (0..=MOST_TICKS).map(|ticks| u64::from(CHOICES).pow(2 * ticks)).sum();
+    let mut progress = Progress::new("exhaustive, histories", total);
+    let mut done = 0;
+    for ticks in 0..=MOST_TICKS {
+        let (models, sheets) = (strips(Side::Model, ticks), strips(Side::Sheet, ticks));
+        for model in &models {
+            for sheet in &sheets {
+                if let Some(case) = one_history(model, sheet, ticks) {
+                    return Some(case);
+                }
+                done += 1;
+            }
+            progress.show(done);
+        }
+    }
+    let library = if gate::LINKED { ", by the C library" } else { "" };
+    println!(
+        "exhaustive: {done} histories judged by the formula, by the group{library} in {:.1} s",
+        progress.seconds()
+    );
+    None
+}
+
+fn one_history(model: &[Event], sheet: &[Event], now: u32) -> Option<Case> {
+    let (m, s) = (words(model), words(sheet));
+    let by_formula = verdict(&History::of_every_tick(model, sheet, now));
+    let by_judge = judge(&m, &s, now);
+    assert_eq!(by_judge, Ok(by_formula), "the second program's own judge: {model:?} {sheet:?}");
+    assert_eq!(
+        by_group(model, sheet, now),
+        by_formula.is_granted(),
+        "its own group: {model:?} {sheet:?}"
+    );
+    let (m, s) = (bytes(&m), bytes(&s));
+    let by_gate = gate::judge(&m, &s, now)?;
+    (by_gate != judge_bytes(&m, &s, now)).then(|| Case::judge(m, s, now))
+}
+
+fn by_group(model: &[Event], sheet: &[Event], now: u32) -> bool {
+    let mut group = Group::default();
+    for tick in 1..=now {
+        for event in model.iter().chain(sheet).filter(|event| event.tick == tick) {
+            let answer = group.request(event.kind.number(), event.number);
+            assert_eq!(answer, Ok(()), "a well-formed request");
+        }
+        assert_eq!(group.close(), Ok(tick));
+    }
+    group.read(0, 0) == Ok(true)
+}
+
+/// Many strips side by side in one group: 64 models by 256 sheets cover 16,384 histories.
+struct Batch {
+    models: Vec<Vec<Event>>,
+    sheets: Vec<Vec<Event>>,
+}
+
+fn batches() -> Vec<Batch> {
+    let codes: Vec<u32> = (0..CHOICES.pow(MOST_TICKS)).collect();
+    let side_by_side = |side: Side, codes: &[u32]| -> Vec<Vec<Event>> {
+        let strip_at =
+            |(number, &code): (usize, &u32)| strip(side, code, MOST_TICKS, number as u32);
+        codes.iter().enumerate().map(strip_at).collect()
+    };
+    let mut batches = Vec::new();
+    for models in codes.chunks(Side::Model.carriers() as usize) {
+        for sheets in codes.chunks(Side::Sheet.carriers() as usize) {
+            batches.push(Batch {
+                models: side_by_side(Side::Model, models),
+                sheets: side_by_side(Side::Sheet, sheets),
+            });
+        }
+    }
+    batches
+}
+
+impl Batch {
+    fn events_of_tick(&self, tick: u32) -> impl Iterator<Item = &Event> {
+        let all = self.models.iter().chain(&self.sheets).flatten();
+        all.filter(move |event| event.tick == tick)
+    }
+
+    fn book(&self, ticks: u32) -> Vec<u8> {
+        let events = (1..=ticks).flat_map(|tick| self.events_of_tick(tick));
+        let mut words: Vec<u32> = events.map(|event| event.word()).collect();
+        words.sort_unstable();
+        book_of(ticks, 0, &words)
+    }
+}
+
+fn by_listing(programs: &Programs) -> io::Result<Option<Case>> {
+    let batches = batches();
+    let total = batches.len() as u64 * u64::from(MOST_TICKS);
+    let mut progress = Progress::new("exhaustive, books through listing", total);
+    let mut done = 0;
+    for batch in &batches {
+        for ticks in 1..=MOST_TICKS {
+            let case = Case::listing(batch.book(ticks));
+            if difference(&case, programs)?.is_some() {
+                return Ok(Some(case));
+            }
+            done += 1;
+            progress.show(done);
+        }
+    }
+    println!(
+        "exhaustive: the same histories in {done} books through listing in {:.1} s",
+        progress.seconds()
+    );
+    Ok(None)
+}
+
+fn by_keeper(programs: &Programs) -> io::Result<Option<Case>> {
+    let batches = batches();
+    let mut progress = Progress::new("exhaustive, sessions through keeper", batches.len() as u64);
+    let mut reads = 0;
+    for (place, batch) in batches.iter().enumerate() {
+        let (input, expected) = session(batch);
+        let got = programs.run_keeper(&input, &Default::default())?;
+        if got.output != expected || got.trouble.is_some() {
+            return Ok(Some(smallest_session(batch, &got.output, &expected)));
+        }
+        reads += u64::from(MOST_TICKS) * (batch.models.len() * batch.sheets.len()) as u64;
+        progress.show(place as u64 + 1);
+    }
+    println!(
+        "exhaustive: the same histories, {reads} reads, through keeper in {:.1} s",
+        progress.seconds()
+    );
+    Ok(None)
+}
+
+/// The batch's requests tick by tick, every pair read after each close; and the answers.
+fn session(batch: &Batch) -> (Vec<u8>, Vec<u8>) {
+    let (mut input, mut expected) = (String::new(), String::new());
+    for tick in 1..=MOST_TICKS {
+        for event in batch.events_of_tick(tick) {
+            input += &format!("{:?} {}\n", event.kind, event.number);
+            expected += "ok\n";
+        }
+        input += "close\n";
+        expected += &format!("closed {tick}\n");
+        for (m, model) in batch.models.iter().enumerate() {
+            for (s, sheet) in batch.sheets.iter().enumerate() {
+                input += &format!("read {m} {s}\n");
+                let granted = verdict_up_to(model, sheet, tick).is_granted();
+                expected += if granted { "granted\n" } else { "denied\n" };
+            }
+        }
+    }
+    (input.into_bytes(), expected.into_bytes())
+}
+
+fn verdict_up_to(model: &[Event], sheet: &[Event], tick: u32) -> Verdict {
+    let up_to = |strip: &[Event]| strip.partition_point(|event| event.tick <= tick);
+    verdict(&History::of_event_ticks(&model[..up_to(model)], &sheet[..up_to(sheet)]))
+}
+
+/// The session of the one pair whose read differs first, to be shrunk quickly; the whole
+/// session when no read does.
+fn smallest_session(batch: &Batch, got: &[u8], expected: &[u8]) -> Case {
+    let lines = |bytes: &[u8]| -> Vec<Vec<u8>> {
+        bytes.split(|&byte| byte == b'\n').map(<[u8]>::to_vec).collect()
+    };
+    let (input, _) = session(batch);
+    let different = lines(got).iter().zip(&lines(expected)).position(|(a, b)| a != b);
+    let command = different.and_then(|place| lines(&input).get(place).cloned()).unwrap_or_default();
+    let command = String::from_utf8(command).unwrap_or_default();
+    let mut words = command.split(' ');
+    let mut number = || words.next().and_then(|word| word.parse::<usize>().ok());
+    number();
+    let input = match (number(), number()) {
+        (Some(model), Some(sheet)) => {
+            let one = Batch {
+                models: vec![renumbered(&batch.models[model])],
+                sheets: vec![renumbered(&batch.sheets[sheet])],
+            };
+            session(&one).0
+        }
+        _ => input,
+    };
+    let mut case = Case::new(Trial::Keeper);
+    for line in lines(&input).iter().filter(|line| !line.is_empty()) {
+        case.add_line(Run::Both, line);
+    }
+    case
+}
+
+/// The strip as carrier 0's.
+fn renumbered(strip: &[Event]) -> Vec<Event> {
+    strip.iter().map(|&event| Event { number: 0, ..event }).collect()
+}

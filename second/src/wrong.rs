@@ -1,0 +1,102 @@
+//! The readings that look right and aren't (document 01), on purpose: the programs take
+//! one from the environment as SECOND_WRONG, so that `compare` can be seen to find it.
+
+use crate::event::{Event, Kind};
+use crate::formula::History;
+use crate::judge::{verdict, Cause, Moment, Verdict};
+
+#[derive(Clone, Copy, Debug, Default, PartialEq, Eq)]
+pub enum Reading {
+    #[default]
+    Right,
+    /// Grants whoever is in today.
+    Today,
+    /// Applies a tick's events as they arrive: a join, then the sheet's event, then a leave.
+    Arrival,
+    /// Compares only the latest join with the latest add.
+    Latest,
+    /// Refuses a delivery for a fault in an ungranted entry.
+    Entry,
+}
+
+pub const READINGS: [(&str, Reading); 4] = [
+    ("today", Reading::Today),
+    ("arrival", Reading::Arrival),
+    ("latest", Reading::Latest),
+    ("entry", Reading::Entry),
+];
+
+/// The reading that SECOND_WRONG names; the right one when it isn't set.
+pub fn reading_from_environment() -> Result<Reading, String> {
+    let name = std::env::var("SECOND_WRONG").unwrap_or_default();
+    if name.is_empty() {
+        return Ok(Reading::Right);
+    }
+    let known = READINGS.iter().find(|(word, _)| *word == name);
+    known
+        .map(|(_, reading)| *reading)
+        .ok_or_else(|| format!("SECOND_WRONG={name} is not known: today, arrival, latest or entry"))
+}
+
+/// The verdict of a reading on the strips of one pair, as of the last close.
+pub fn verdict_by(reading: Reading, model: &[Event], sheet: &[Event]) -> Verdict {
+    match reading {
+        Reading::Right | Reading::Entry => verdict(&History::of_event_ticks(model, sheet)),
+        Reading::Today => today(model, sheet),
+        Reading::Arrival => arrival(&History::of_event_ticks(model, sheet)),
+        Reading::Latest => {
+            verdict(&History::of_event_ticks(from_last_entry(model), from_last_entry(sheet)))
+        }
+    }
+}
+
+fn today(model: &[Event], sheet: &[Event]) -> Verdict {
+    let is_in = |strip: &[Event]| strip.last().is_some_and(|event| event.kind.enters());
+    match sheet.last() {
+        Some(add) if is_in(model) && is_in(sheet) => Verdict::Granted(Moment::Add(add.tick)),
+        _ => Verdict::Denied(Cause::None),
+    }
+}
+
+fn from_last_entry(strip: &[Event]) -> &[Event] {
+    let start = strip.iter().rposition(|event| event.kind.enters());
+    &strip[start.unwrap_or(0)..]
+}
+
+fn arrival(history: &History) -> Verdict {
+    let mut verdict = Verdict::Denied(Cause::None);
+    let (mut model, mut sheet) = (None, None);
+    for happening in &history.ticks {
+        let joins = happening.model.is_some_and(|kind| kind.enters());
+        let in_order = match joins {
+            true => [happening.model, happening.sheet],
+            false => [happening.sheet, happening.model],
+        };
+        for kind in in_order.into_iter().flatten() {
+            verdict = arrive(verdict, kind, happening.tick, model, sheet);
+            match kind {
+                Kind::SJ | Kind::LJ => model = Some(kind),
+                Kind::SL | Kind::LL => model = None,
+                Kind::SA | Kind::LA => sheet = Some(kind),
+                Kind::SR | Kind::LR => sheet = None,
+            }
+        }
+    }
+    verdict
+}
+
+fn arrive(
+    before: Verdict,
+    kind: Kind,
+    tick: u32,
+    model: Option<Kind>,
+    sheet: Option<Kind>,
+) -> Verdict {
+    match kind {
+        Kind::SA | Kind::LA if model.is_some() => Verdict::Granted(Moment::Add(tick)),
+        Kind::LJ if sheet == Some(Kind::LA) => Verdict::Granted(Moment::Join(tick)),
+        Kind::SL => Verdict::Denied(Cause::StrictLeave),
+        Kind::SR => Verdict::Denied(Cause::StrictRemove),
+        _ => before,
+    }
+}
