@@ -214,7 +214,7 @@ impl Group {
         }
     }
 
-    fn marked(self, kind: u32, number: u32) -> Group
+    fn marked(mut self, kind: u32, number: u32) -> Group
         requires { ⌜ number < carriers kind ⌝ }
         ensures { λ r. ⌜ r ≡ markedGroup self kind number ⌝ }
     {
@@ -226,16 +226,15 @@ impl Group {
         let la = mark_set(was_la, kind == LA, number);
         let sr = mark_set(was_sr, kind == SR, number);
         let lr = mark_set(was_lr, kind == LR, number);
-        let mut g = self;
-        g.sj = mark_word(g.sj, kind == SJ, number);
-        g.lj = mark_word(g.lj, kind == LJ, number);
-        g.sl = mark_word(g.sl, kind == SL, number);
-        g.ll = mark_word(g.ll, kind == LL, number);
-        g.sa = sa;
-        g.la = la;
-        g.sr = sr;
-        g.lr = lr;
-        g
+        self.sj = mark_word(self.sj, kind == SJ, number);
+        self.lj = mark_word(self.lj, kind == LJ, number);
+        self.sl = mark_word(self.sl, kind == SL, number);
+        self.ll = mark_word(self.ll, kind == LL, number);
+        self.sa = sa;
+        self.la = la;
+        self.sr = sr;
+        self.lr = lr;
+        self
     }
 }
 
@@ -286,7 +285,7 @@ fn close_words(
 }
 
 impl Group {
-    pub fn after_close(self) -> Group
+    pub fn after_close(mut self) -> Group
         requires { ⌜ self .closed < ticks ⌝ }
         ensures { λ r. ⌜ r ≡ closedGroup self ⌝ }
     {
@@ -303,21 +302,20 @@ impl Group {
         let adds = bits::set_either(sa, la);
         let added = bits::set_after(was_added, removes, adds);
         let liberal = bits::set_after(was_liberal, removes, la);
-        let mut g = self;
-        close_words(&mut g.grants, sr, adds, liberal, members, sl, lj);
-        g.closed = g.closed + 1;
-        g.members = members;
-        g.sj = 0;
-        g.lj = 0;
-        g.sl = 0;
-        g.ll = 0;
-        g.added = added;
-        g.liberal = liberal;
-        g.sa = [0; 4];
-        g.la = [0; 4];
-        g.sr = [0; 4];
-        g.lr = [0; 4];
-        g
+        close_words(&mut self.grants, sr, adds, liberal, members, sl, lj);
+        self.closed = self.closed + 1;
+        self.members = members;
+        self.sj = 0;
+        self.lj = 0;
+        self.sl = 0;
+        self.ll = 0;
+        self.added = added;
+        self.liberal = liberal;
+        self.sa = [0; 4];
+        self.la = [0; 4];
+        self.sr = [0; 4];
+        self.lr = [0; 4];
+        self
     }
 }
 

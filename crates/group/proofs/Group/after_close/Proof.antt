@@ -15,8 +15,8 @@ use Rattle.bits.proofs.set_either.Reads as set-either-reads
 use Rattle.group.proofs.close_words.Reads as close-words-reads
 
 -- the grants of a group that a machine holds
-held : (c : tie.Start) → Sized sheets (c .args .self .grants)
-held c = record { long = search needs; words = λ k. let w : FitsIn w64 (getD (c .args .self .grants) k 0) = search needs in w .fits }
+held : (c : tie.Start) → Sized sheets (c .args .t1 .grants)
+held c = record { long = search needs; words = λ k. let w : FitsIn w64 (getD (c .args .t1 .grants) k 0) = search needs in w .fits }
 
 after-word-requires : tie.Need-after-word-requires
 after-word-requires c κs = search needs
@@ -35,10 +35,10 @@ set-after-requires-2 c κs = search needs
 
 close-words-requires : tie.Need-close-words-requires
 close-words-requires c κs =
-    held (c .before .before .before .before .before .before .before .before .before .before .before .before .before .before)
+    held (c .before .before .before .before .before .before .before .before .before .before .before .before)
 
-add-g : tie.Need-add-g
-add-g c = search needs
+add-self : tie.Need-add-self
+add-self c = search needs
 
 returns : tie.Need-returns
 unfolding closedGroup closedMembers closedAdded closedLiberal
@@ -63,5 +63,5 @@ after-close-spec =
     set-after-requires
     set-after-requires-2
     close-words-requires
-    add-g
+    add-self
     returns)
