@@ -1,5 +1,6 @@
 -- Laws that the proofs of other crates cite.
 pub mod Accepted
+pub mod Apart
 pub mod Carrier
 pub mod Clear
 pub mod Close

@@ -5,6 +5,7 @@ pub mod Count
 pub mod Event
 pub mod Fits
 pub mod Fresh
+pub mod Gain
 pub mod Marks
 pub mod Read
 pub mod Request

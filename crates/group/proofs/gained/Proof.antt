@@ -1,8 +1,8 @@
--- `group::close_word` meets its contract.
-use Rattle.group.specs.Close.{closedWord}
+-- `group::gained` meets its contract.
+use Rattle.group.specs.Gain.{gainedWord}
 use borrow.Author.Needs.{needs}
-use Rattle.group.proofs.close_word.Statement.{statement}
-use Rattle.group.proofs.close_word.Tie as tie
+use Rattle.group.proofs.gained.Statement.{statement}
+use Rattle.group.proofs.gained.Tie as tie
 
 choose-requires : tie.Need-choose-requires
 choose-requires c κs = search needs
@@ -14,8 +14,8 @@ choose-requires-3 : tie.Need-choose-requires-3
 choose-requires-3 c κs = search needs
 
 returns : tie.Need-returns
-unfolding closedWord
+unfolding gainedWord
 returns c = simp (c .before .before .choose .ensures, c .before .choose2 .ensures, c .choose3 .ensures)
 
-pub close-word-spec : {M : Type 1} → statement M
-close-word-spec = tie.close (tie.spec choose-requires choose-requires-2 choose-requires-3 returns)
+pub gained-spec : {M : Type 1} → statement M
+gained-spec = tie.close (tie.spec choose-requires choose-requires-2 choose-requires-3 returns)
