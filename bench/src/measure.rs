@@ -14,8 +14,8 @@ pub struct Timing {
     seconds: Vec<f64>,
 }
 
-/// At least this long is one sample.
-const SAMPLE: Duration = Duration::from_millis(10);
+/// At least this long is one sample: long for the clock, short for whatever else the core is asked to do.
+const SAMPLE: Duration = Duration::from_millis(2);
 
 /// In every round each side takes its turn, so that what disturbs the machine disturbs all.
 pub fn measure(rounds: usize, sides: &mut [Side]) -> Vec<Timing> {
@@ -53,6 +53,11 @@ impl Timing {
     /// The second at this quarter of the rounds; 2 is the median.
     pub fn quarter(&self, quarter: usize) -> f64 {
         self.seconds[(self.seconds.len() - 1) * quarter / 4]
+    }
+
+    /// The ratio of the medians.
+    pub fn to(&self, other: &Timing) -> String {
+        format!("{:.2}", self.quarter(2) / other.quarter(2))
     }
 }
 

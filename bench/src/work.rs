@@ -29,6 +29,15 @@ pub fn strips(dice: &mut Dice, words: u32) -> Strips {
     }
 }
 
+/// Two strips of so many words whose events take turns, tick by tick, and whose kinds repeat.
+pub fn even_strips(words: u32) -> Strips {
+    let strip = |side, number, first| -> Vec<u32> {
+        let kinds = [side, side + 3, side + 1, side + 3];
+        (0..words).map(|place| word(first + 2 * place, kinds[place as usize % 4], number)).collect()
+    };
+    Strips { model: bytes(&strip(SJ, 2, 1)), sheet: bytes(&strip(SA, 7, 2)) }
+}
+
 /// Events on one side, each strict or liberal by a throw; the last, a leave or remove, is liberal.
 fn strip(dice: &mut Dice, side: u32, number: u32, words: u32) -> Vec<u32> {
     let gap = 2 * (NOW / words / 2) - 1;
@@ -103,4 +112,32 @@ pub fn group(dice: &mut Dice, sheets: usize) -> Group {
         *grant = *grant & !1 | u64::from(sheet < sheets);
     }
     group
+}
+
+/// Lines for the keeper. Of 100, 45 are requests that are accepted, 3 are requests at random, which are
+/// mostly refused, 6 are closes, 38 are reads and 8 ask how many models may read a sheet.
+pub fn commands(dice: &mut Dice, count: usize) -> String {
+    const KINDS: [&str; 8] = ["SJ", "LJ", "SL", "LL", "SA", "LA", "SR", "LR"];
+    let mut group = Group::fresh(3);
+    let mut lines = String::from("fresh 3\n");
+    for _ in 1..count {
+        lines += &match dice.below(100) {
+            0..45 => {
+                let (kind, number) = accepted(dice, &mut group);
+                format!("{} {number}\n", KINDS[kind as usize])
+            }
+            45..48 => {
+                let (kind, number) = (dice.below(8), dice.below(64));
+                let _ = group.request(kind, number);
+                format!("request {kind} {number}\n")
+            }
+            48..54 => {
+                group.close().expect("a tick is left");
+                String::from("close\n")
+            }
+            54..92 => format!("read {} {}\n", dice.below(64), dice.below(SHEETS)),
+            _ => format!("models {}\n", dice.below(SHEETS)),
+        };
+    }
+    lines
 }

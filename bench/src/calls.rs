@@ -4,24 +4,45 @@
 use crate::dice::Dice;
 use crate::gate;
 use crate::measure::{measure, Side, Timing};
-use crate::work;
+use crate::work::{self, Strips};
+use crate::Setting;
 use plain::delivery::deliver;
 use plain::event::EVENTS;
 use plain::group::Group;
 use plain::judge::judge_bytes;
 use std::hint::black_box;
 
-pub type Row = fn(usize) -> Vec<Timing>;
+pub fn judge_4096(setting: &Setting) -> Vec<Timing> {
+    judge(setting, 16, |dice| work::strips(dice, 4_096))
+}
 
-pub const ROWS: [(&str, Row); 7] = [
-    ("judge-4096", |rounds| judge(rounds, 4_096, 16)),
-    ("judge-8", |rounds| judge(rounds, 8, 1_024)),
-    ("book-0", |rounds| book(rounds, 0)),
-    ("book-4096", |rounds| book(rounds, EVENTS)),
-    ("deliver-empty", |rounds| delivery(rounds, &[])),
-    ("deliver-256-small", |rounds| delivery(rounds, &[100; 256])),
-    ("deliver-20-large", |rounds| delivery(rounds, &[52_400; 20])),
-];
+pub fn judge_even(setting: &Setting) -> Vec<Timing> {
+    judge(setting, 16, |_| work::even_strips(4_096))
+}
+
+pub fn judge_8(setting: &Setting) -> Vec<Timing> {
+    judge(setting, 1_024, |dice| work::strips(dice, 8))
+}
+
+pub fn book_0(setting: &Setting) -> Vec<Timing> {
+    book(setting, 0)
+}
+
+pub fn book_4096(setting: &Setting) -> Vec<Timing> {
+    book(setting, EVENTS)
+}
+
+pub fn deliver_empty(setting: &Setting) -> Vec<Timing> {
+    delivery(setting, &[])
+}
+
+pub fn deliver_small(setting: &Setting) -> Vec<Timing> {
+    delivery(setting, &[100; 256])
+}
+
+pub fn deliver_large(setting: &Setting) -> Vec<Timing> {
+    delivery(setting, &[52_400; 20])
+}
 
 const OUT_BYTES: usize = 1_114_112;
 const FILLING: u8 = 0xa5;
@@ -34,9 +55,9 @@ fn pair<'a>(gate: impl FnMut() + 'a, plain: impl FnMut() + 'a) -> [Side<'a>; 2] 
 }
 
 /// One call judges the next of several pairs of strips, so that no call can be learnt by heart.
-fn judge(rounds: usize, words: u32, pairs: usize) -> Vec<Timing> {
-    let mut dice = Dice(words.into());
-    let pairs: Vec<_> = (0..pairs).map(|_| work::strips(&mut dice, words)).collect();
+fn judge(setting: &Setting, pairs: u64, strips: fn(&mut Dice) -> Strips) -> Vec<Timing> {
+    let mut dice = Dice(pairs);
+    let pairs: Vec<_> = (0..pairs).map(|_| strips(&mut dice)).collect();
     for pair in &pairs {
         let gate = gate::judge(&pair.model, &pair.sheet, work::NOW);
         assert_eq!(gate, judge_bytes(&pair.model, &pair.sheet, work::NOW), "the judges differ");
@@ -52,10 +73,10 @@ fn judge(rounds: usize, words: u32, pairs: usize) -> Vec<Timing> {
             black_box(judge_bytes(&strips.model, &strips.sheet, work::NOW));
         },
     );
-    measure(rounds, &mut sides)
+    measure(setting.call_rounds(), &mut sides)
 }
 
-fn book(rounds: usize, records: usize) -> Vec<Timing> {
+fn book(setting: &Setting, records: usize) -> Vec<Timing> {
     let mut dice = Dice(records as u64);
     let books: Vec<_> = (0..8).map(|_| work::book(&mut dice, records)).collect();
     let mut gate_list = vec![7; EVENTS];
@@ -80,10 +101,10 @@ fn book(rounds: usize, records: usize) -> Vec<Timing> {
             black_box(&group);
         },
     );
-    measure(rounds, &mut sides)
+    measure(setting.call_rounds(), &mut sides)
 }
 
-fn delivery(rounds: usize, lengths: &[u32]) -> Vec<Timing> {
+fn delivery(setting: &Setting, lengths: &[u32]) -> Vec<Timing> {
     let mut dice = Dice(lengths.len() as u64);
     let store = work::store(&mut dice, lengths);
     let group = work::group(&mut dice, lengths.len());
@@ -106,5 +127,5 @@ fn delivery(rounds: usize, lengths: &[u32]) -> Vec<Timing> {
             black_box(&plain_out);
         },
     );
-    measure(rounds, &mut sides)
+    measure(setting.call_rounds(), &mut sides)
 }
