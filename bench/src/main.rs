@@ -6,6 +6,7 @@
 //! GATE and PLAIN are the folders of the programs, FOLDER is for the files that the programs read.
 
 mod calls;
+mod clock;
 mod dice;
 mod gate;
 mod measure;
@@ -65,7 +66,8 @@ fn main() {
         .collect();
     print(&timed);
     println!(
-        "\nMedians, with quartiles, of {} rounds for a call and of {} for a program. {BUFFERS}",
+        "\nProcessor time: medians, with quartiles, of {} rounds for a call and of {} for a program. \
+         {BUFFERS}",
         setting.call_rounds(),
         setting.rounds,
     );

@@ -1,6 +1,7 @@
 //! Rounds of timed work, and what is said of them.
 
-use std::time::{Duration, Instant};
+use crate::clock::spent;
+use std::time::Duration;
 
 /// One way of doing a row's work.
 pub struct Side<'a> {
@@ -14,7 +15,7 @@ pub struct Timing {
     seconds: Vec<f64>,
 }
 
-/// At least this long is one sample: long for the clock, short for whatever else the core is asked to do.
+/// At least this long is one sample: long beside what asking for the time takes.
 const SAMPLE: Duration = Duration::from_millis(2);
 
 /// In every round each side takes its turn, so that what disturbs the machine disturbs all.
@@ -42,11 +43,11 @@ fn calls_in_a_sample(work: &mut impl FnMut()) -> u32 {
 }
 
 fn time(work: &mut impl FnMut(), calls: u32) -> Duration {
-    let start = Instant::now();
+    let start = spent();
     for _ in 0..calls {
         work();
     }
-    start.elapsed()
+    spent() - start
 }
 
 impl Timing {
