@@ -54,8 +54,9 @@ fn sheet_count(store: &[u8]) -> Result<usize, Refusal> {
     Ok(n)
 }
 
+/// The sheets that the group grants the model, rising.
 fn granted(group: &Group, model: u32) -> impl Iterator<Item = usize> + '_ {
-    group.grants.iter().enumerate().filter(move |(_, word)| *word >> model & 1 == 1).map(|(s, _)| s)
+    (0..SHEETS as usize).filter(move |&sheet| group.grants[sheet] >> model & 1 == 1)
 }
 
 fn entry(store: &[u8], sheet: usize) -> (usize, usize) {
