@@ -77,6 +77,9 @@ pub fn listing(setting: &Setting) -> Vec<Timing> {
     let book = work::book(&mut Dice(EVENTS as u64), EVENTS);
     fs::write(&input, &book).expect("a file in the folder");
     let mut programs = pair(setting, "listing", &input);
+    let replay =
+        Program::new("plain Rust, one replay", setting.plain.join("plain-listing"), &input);
+    programs.push(replay.on("--replay"));
     if sqlite(&mut programs, &setting.folder, &book).is_none() {
         eprintln!(
             "bench: sqlite3 isn't installed (Debian: apt-get install sqlite3) and is left out"
@@ -97,8 +100,10 @@ fn sqlite(programs: &mut Vec<Program>, folder: &Path, book: &[u8]) -> Option<()>
     Program::new("", "sqlite3".into(), &both).on(&database).prints();
     fs::write(&both, load + query).ok()?;
     fs::write(&alone, query).ok()?;
-    programs.push(Program::new("SQLite, loading too", "sqlite3".into(), &both).on(":memory:"));
-    programs.push(Program::new("SQLite, loaded", "sqlite3".into(), &alone).on(&database));
+    programs.push(
+        Program::new("SQLite, the words loaded first", "sqlite3".into(), &both).on(":memory:"),
+    );
+    programs.push(Program::new("SQLite, the query alone", "sqlite3".into(), &alone).on(&database));
     Some(())
 }
 
