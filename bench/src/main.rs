@@ -45,9 +45,9 @@ const ROWS: [(&str, &str, Row); 11] = [
     ("deliver-empty", "delivery from an empty store", calls::deliver_empty),
     ("deliver-small", "delivery of 256 sheets of 100 bytes", calls::deliver_small),
     ("deliver-large", "delivery of 20 sheets of 52,400 bytes", calls::deliver_large),
-    ("start", "program: listing of an empty file", programs::start),
-    ("listing", "program: listing of a full book", programs::listing),
-    ("keeper", "program: keeper, 1,000,000 commands", programs::keeper),
+    ("start", "listing program, an empty file", programs::start),
+    ("listing", "listing program, a full book", programs::listing),
+    ("keeper", "keeper program, 1,000,000 commands", programs::keeper),
 ];
 
 fn main() {
@@ -61,7 +61,7 @@ fn main() {
     let timed: Vec<_> = rows
         .map(|(name, what, row)| {
             eprintln!("bench: {name}");
-            (*what, row(&setting))
+            (*name, *what, row(&setting))
         })
         .collect();
     print(&timed);
@@ -73,15 +73,15 @@ fn main() {
     );
 }
 
-fn print(rows: &[(&str, Vec<Timing>)]) {
-    println!("| Work | Gate | Plain Rust | Gate to plain Rust |");
-    println!("|---|---|---|---|");
-    for (what, timings) in rows {
+fn print(rows: &[(&str, &str, Vec<Timing>)]) {
+    println!("| Row | Work | Gate | Plain Rust | Gate to plain Rust |");
+    println!("|---|---|---|---|---|");
+    for (name, what, timings) in rows {
         let [gate, plain] = [&timings[0], &timings[1]];
-        println!("| {what} | {} | {} | {} |", cell(gate), cell(plain), gate.to(plain));
+        println!("| `{name}` | {what} | {} | {} | {} |", cell(gate), cell(plain), gate.to(plain));
     }
-    for (what, timings) in rows.iter().filter(|(_, timings)| timings.len() > 2) {
-        println!("\n| {what} | Time | Gate to it |\n|---|---|---|");
+    for (name, _, timings) in rows.iter().filter(|row| row.2.len() > 2) {
+        println!("\n| `{name}` by | Time | Gate to it |\n|---|---|---|");
         for timing in &timings[2..] {
             println!("| {} | {} | {} |", timing.name, cell(timing), timings[0].to(timing));
         }
