@@ -107,7 +107,7 @@ fn sqlite(programs: &mut Vec<Program>, folder: &Path, book: &[u8]) -> Option<()>
     Some(())
 }
 
-/// SQL that puts a book of group 3 into tables.
+/// SQL that puts a book into tables.
 fn load(book: &[u8]) -> String {
     let word = |at| plain::book::word_at(book, at);
     let mut sql = format!(

@@ -40,12 +40,12 @@ pub fn even_strips(words: u32) -> Strips {
 
 /// Events on one side, each strict or liberal by a throw; the last, a leave or remove, is liberal.
 fn strip(dice: &mut Dice, side: u32, number: u32, words: u32) -> Vec<u32> {
-    let gap = 2 * (NOW / words / 2) - 1;
+    let gap = NOW / words;
     let mut tick = 0;
     let mut strip: Vec<u32> = (0..words)
         .map(|place| {
             tick += 1 + dice.below(gap);
-            word(tick.min(NOW), side + place % 2 * 2 + dice.below(2), number)
+            word(tick, side + place % 2 * 2 + dice.below(2), number)
         })
         .collect();
     if let Some(last) = strip.last_mut() {
@@ -114,8 +114,8 @@ pub fn group(dice: &mut Dice, sheets: usize) -> Group {
     group
 }
 
-/// Lines for the keeper. Of 100, 45 are requests that are accepted, 3 are requests at random, which are
-/// mostly refused, 6 are closes, 38 are reads and 8 ask how many models may read a sheet.
+/// Lines for the keeper. Of 100, 45 are requests that are accepted, 3 are requests at random, half of
+/// them refused, 6 are closes, 38 are reads and 8 ask how many models may read a sheet.
 pub fn commands(dice: &mut Dice, count: usize) -> String {
     const KINDS: [&str; 8] = ["SJ", "LJ", "SL", "LL", "SA", "LA", "SR", "LR"];
     let mut group = Group::fresh(3);
