@@ -1,0 +1,153 @@
+//! The judge: checks both strips, then one pass over their ticks.
+
+use crate::event::{enters, kind, number, numbers, tick, EVENTS, LA, LJ, SA, SJ, SL, SR, TICKS};
+use crate::refusal::{refused, refused_at, Refusal};
+
+#[derive(Clone, Copy, Debug, PartialEq, Eq)]
+pub enum Verdict {
+    Granted(Moment),
+    Denied(Cause),
+}
+
+#[derive(Clone, Copy, Debug, PartialEq, Eq)]
+pub enum Moment {
+    ByAdd(u32),
+    ByJoin(u32),
+}
+
+#[derive(Clone, Copy, Debug, PartialEq, Eq)]
+pub enum Cause {
+    None,
+    StrictLeave,
+    StrictRemove,
+}
+
+/// The judge as the plot loader asks it: strips as bytes, the answer packed.
+pub fn judge_bytes(model: &[u8], sheet: &[u8], now: u32) -> u64 {
+    let (code, value) = match checked(model, sheet, now) {
+        Ok(Verdict::Granted(Moment::ByAdd(tick))) => (101, tick),
+        Ok(Verdict::Granted(Moment::ByJoin(tick))) => (102, tick),
+        Ok(Verdict::Denied(Cause::None)) => (103, 0),
+        Ok(Verdict::Denied(Cause::StrictLeave)) => (104, 0),
+        Ok(Verdict::Denied(Cause::StrictRemove)) => (105, 0),
+        Err(refusal) => (refusal.number, refusal.place.unwrap_or(0)),
+    };
+    u64::from(code) << 32 | u64::from(value)
+}
+
+fn checked(model: &[u8], sheet: &[u8], now: u32) -> Result<Verdict, Refusal> {
+    if now > TICKS {
+        return refused(10);
+    }
+    let Some(model) = whole_words(model) else { return refused(11) };
+    let Some(sheet) = whole_words(sheet) else { return refused(12) };
+    if let Some(place) = first_bad(model, SJ, now) {
+        return refused_at(13, place);
+    }
+    if let Some(place) = first_bad(sheet, SA, now) {
+        return refused_at(14, place);
+    }
+    Ok(judge(model, sheet))
+}
+
+fn whole_words(strip: &[u8]) -> Option<&[[u8; 4]]> {
+    let (words, rest) = strip.as_chunks();
+    (rest.is_empty() && words.len() <= EVENTS).then_some(words)
+}
+
+/// The first place where a strip isn't good; `side` is the first kind of its side.
+fn first_bad(strip: &[[u8; 4]], side: u32, now: u32) -> Option<usize> {
+    let carrier = number(u32::from_le_bytes(*strip.first()?));
+    let mut before = 0;
+    let mut entering = true;
+    for (place, bytes) in strip.iter().enumerate() {
+        let word = u32::from_le_bytes(*bytes);
+        let good = tick(word) > before
+            && tick(word) <= now
+            && kind(word) & 4 == side
+            && enters(kind(word)) == entering
+            && number(word) == carrier
+            && carrier < numbers(side);
+        if !good {
+            return Some(place);
+        }
+        before = tick(word);
+        entering = !entering;
+    }
+    None
+}
+
+/// Past a strip's end: above every tick.
+const NO_TICK: u32 = u32::MAX;
+const NO_KIND: u32 = 8;
+
+/// The verdict on two good strips.
+pub fn judge(model: &[[u8; 4]], sheet: &[[u8; 4]]) -> Verdict {
+    let (mut models, mut sheets) = (Events::of(model), Events::of(sheet));
+    let mut member = false;
+    let mut liberal = false;
+    let mut verdict = Verdict::Denied(Cause::None);
+    loop {
+        let now = models.tick.min(sheets.tick);
+        if now == NO_TICK {
+            return verdict;
+        }
+        let (model, sheet) = (models.take(now), sheets.take(now));
+        match model {
+            SJ | LJ => member = true,
+            NO_KIND => {}
+            _ => member = false,
+        }
+        match sheet {
+            LA => liberal = true,
+            SA | NO_KIND => {}
+            _ => liberal = false,
+        }
+        if member && (sheet == SA || sheet == LA) {
+            verdict = Verdict::Granted(Moment::ByAdd(now));
+        } else if model == LJ && liberal {
+            verdict = Verdict::Granted(Moment::ByJoin(now));
+        } else if matches!(verdict, Verdict::Granted(_)) {
+            if model == SL {
+                verdict = Verdict::Denied(Cause::StrictLeave);
+            } else if sheet == SR {
+                verdict = Verdict::Denied(Cause::StrictRemove);
+            }
+        }
+    }
+}
+
+/// A strip's events from the one that comes next.
+struct Events<'a> {
+    rest: std::slice::Iter<'a, [u8; 4]>,
+    tick: u32,
+    kind: u32,
+}
+
+impl<'a> Events<'a> {
+    fn of(strip: &'a [[u8; 4]]) -> Self {
+        let mut events = Events { rest: strip.iter(), tick: 0, kind: NO_KIND };
+        events.advance();
+        events
+    }
+
+    fn advance(&mut self) {
+        (self.tick, self.kind) = match self.rest.next() {
+            Some(bytes) => {
+                let word = u32::from_le_bytes(*bytes);
+                (tick(word), kind(word))
+            }
+            None => (NO_TICK, NO_KIND),
+        };
+    }
+
+    /// The kind of the event in this tick, if there is one.
+    fn take(&mut self, now: u32) -> u32 {
+        if self.tick != now {
+            return NO_KIND;
+        }
+        let kind = self.kind;
+        self.advance();
+        kind
+    }
+}
