@@ -9,6 +9,5 @@ pub fn deliver(group: Group, model: u32, sheets: &[u8], out: &mut [u8]) -> Deliv
     ensures answered { λ r. ⌜ r ≡ answer (group .grants) model (now (sheets .entry)) (length (now (out .entry))) ⌝ }
     ensures left { λ _. ⌜ now (out .exit) ≡ bufferAfter (group .grants) model (now (sheets .entry)) (now (out .entry)) ⌝ }
 {
-    let grants = group.grants;
-    store::deliver(&grants, model, sheets, out)
+    store::deliver(&group.grants, model, sheets, out)
 }
