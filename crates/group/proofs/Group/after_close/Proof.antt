@@ -1,3 +1,4 @@
+-- `group::Group::after_close` meets its contract: each field by its own call.
 use mir.Syntax.{w64}
 use mir.Val.{Fits as FitsIn}
 use lib.ListN.{getD}
@@ -7,12 +8,6 @@ use Rattle.group.specs.Close.{closedMembers, closedAdded, closedLiberal,
 use borrow.Author.Needs.{needs}
 use Rattle.group.proofs.Group.after_close.Statement.{statement}
 use Rattle.group.proofs.Group.after_close.Tie as tie
-use Rattle.group.proofs.Group.after_close.Reads as reads
-use Rattle.group.proofs.Group.after_close.Lts as lts
-use Rattle.bits.proofs.after_word.Reads as after-word-reads
-use Rattle.bits.proofs.set_after.Reads as set-after-reads
-use Rattle.bits.proofs.set_either.Reads as set-either-reads
-use Rattle.group.proofs.close_words.Reads as close-words-reads
 
 -- the grants of a group that a machine holds
 held : (c : tie.Start) → Sized sheets (c .args .t1 .grants)

@@ -1,4 +1,4 @@
--- `group::close_words` meets its contract: what an SL takes, then the rest of the tick.
+-- `group::grants::close_words` meets its contract: what an SL takes, then the rest of the tick.
 use mathlib.Core.Path.{ap, _∙_}
 use mathlib.Core.List.{List}
 use Prim.Native.Nat.{ℕ}
@@ -6,8 +6,8 @@ use lib.ListN.{length}
 use Rattle.group.specs.Gain.{gainedWords}
 use Rattle.group.proofs.Apart.{closed-apart, length-lost}
 use borrow.Author.Needs.{needs}
-use Rattle.group.proofs.close_words.Statement.{statement}
-use Rattle.group.proofs.close_words.Tie as tie
+use Rattle.group.proofs.grants.close_words.Statement.{statement}
+use Rattle.group.proofs.grants.close_words.Tie as tie
 
 lose-requires : tie.Need-lose-requires
 lose-requires c κs = search needs

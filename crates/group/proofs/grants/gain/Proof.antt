@@ -1,3 +1,4 @@
+-- `group::grants::gain` meets its contract: the sheets before s have their new words; a word of quiet sheets keeps its own, so the pass may go on behind it.
 use mathlib.Core.Path.{_≡_, sym, _∙_}
 use Prim.Native.Nat.{_+_, _-_, _*_, _/_, _≤_}
 use native.Mathlib.Omega.{arith}
@@ -8,13 +9,8 @@ use Rattle.bits.specs.Set.{has}
 use Rattle.group.specs.Gain.{gainedWord, gainedWords}
 use Rattle.group.proofs.Apart.{quiet-stays}
 use borrow.Author.Needs.{needs}
-use Rattle.group.proofs.gain.Statement.{statement}
-use Rattle.group.proofs.gain.Tie as tie
-use Rattle.group.proofs.gain.Reads as reads
-use Rattle.group.proofs.gain.Lts as lts
-use Rattle.bits.proofs.has_bit.Reads as has-bit-reads
-use Rattle.group.proofs.gained.Reads as gained-reads
-use Rattle.group.proofs.is_quiet.Reads as is-quiet-reads
+use Rattle.group.proofs.grants.gain.Statement.{statement}
+use Rattle.group.proofs.grants.gain.Tie as tie
 
 abbrev Inv-loop : tie.InvT-loop
 Inv-loop words₀ members lj sr adds liberal s₀ words s = (s ≤ sheets) × (words ≡ front (gainedWords words₀ sr adds liberal members lj) words₀ s)
