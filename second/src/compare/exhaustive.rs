@@ -76,7 +76,7 @@ fn in_process() -> Option<Case> {
             progress.show(done);
         }
     }
-    let library = if gate::LINKED { ", by the C library" } else { "" };
+    let library = if gate::LIBRARY.is_some() { ", by the C library" } else { "" };
     println!(
         "exhaustive: {done} histories judged by the formula, by the group{library} in {:.1} s",
         progress.seconds()
@@ -95,7 +95,7 @@ fn one_history(model: &[Event], sheet: &[Event], now: u32) -> Option<Case> {
         "its own group: {model:?} {sheet:?}"
     );
     let (m, s) = (bytes(&m), bytes(&s));
-    let by_gate = gate::judge(&m, &s, now)?;
+    let by_gate = gate::LIBRARY?.judge(&m, &s, now);
     (by_gate != judge_bytes(&m, &s, now)).then(|| Case::judge(m, s, now))
 }
 

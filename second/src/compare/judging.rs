@@ -6,8 +6,13 @@ use crate::chance::Chance;
 use second::event::Side;
 use second::limits::{LAST_TICK, STRIP_WORDS};
 
-/// Two strips and now, as bytes.
-pub fn strips(chance: &mut Chance) -> Case {
+pub fn judged(chance: &mut Chance) -> Case {
+    let (model, sheet, now) = strips(chance);
+    Case::judge(model, sheet, now)
+}
+
+/// Two strips, as bytes, and now.
+pub fn strips(chance: &mut Chance) -> (Vec<u8>, Vec<u8>, u32) {
     let now = match chance.within(0..=9) {
         0 => chance.one_of(&[0, LAST_TICK, LAST_TICK + 1, u32::MAX]),
         1..=2 => chance.within(0..=LAST_TICK),
@@ -15,7 +20,7 @@ pub fn strips(chance: &mut Chance) -> Case {
     };
     let model = strip(chance, Side::Model, now);
     let sheet = strip(chance, Side::Sheet, now);
-    Case::judge(model, sheet, now)
+    (model, sheet, now)
 }
 
 fn strip(chance: &mut Chance, side: Side, now: u32) -> Vec<u8> {
