@@ -70,7 +70,18 @@ impl GroupRecord {
     }
 
     pub fn of_history(group: &Group) -> GroupRecord {
-        GroupRecord::with_grants(group, grants(group))
+        GroupRecord::with_grants(group, grants(group, |_, _| None))
+    }
+
+    /// The record after a close, when the one before it is known: a pair without an event in
+    /// the tick that was closed has the strips it had, and so its grant.
+    pub fn of_close(group: &Group, before: &GroupRecord) -> GroupRecord {
+        let quiet = |strip: &[Event]| strip.last().is_some_and(|e| e.tick < group.closed);
+        let known = |model: &[Event], sheet: &[Event]| {
+            let pair = || before.read(model[0].number, sheet[0].number).expect("both in range");
+            (quiet(model) && quiet(sheet)).then(pair)
+        };
+        GroupRecord::with_grants(group, grants(group, known))
     }
 
     /// The record of a history whose grants, as of the last close, are known.
@@ -126,13 +137,14 @@ impl GroupRecord {
 }
 
 /// The formula on every pair of carriers with events; without a join or an add there is
-/// no moment, so that the other pairs have no grant.
-fn grants(group: &Group) -> Grants {
+/// no moment, so that the other pairs have no grant. A grant that is known isn't asked for.
+fn grants(group: &Group, known: impl Fn(&[Event], &[Event]) -> Option<bool>) -> Grants {
     let models = strips_with_events(group, Side::Model);
     let mut grants = [0; SHEETS as usize];
     for (sheet, sheet_strip) in strips_with_events(group, Side::Sheet) {
         for (&model, model_strip) in &models {
-            let granted = group.verdict(model_strip, &sheet_strip).is_granted();
+            let asked = || group.verdict(model_strip, &sheet_strip).is_granted();
+            let granted = known(model_strip, &sheet_strip).unwrap_or_else(asked);
             grants[sheet as usize] |= u64::from(granted) << model;
         }
     }

@@ -24,9 +24,10 @@ pub fn strips(chance: &mut Chance) -> (Vec<u8>, Vec<u8>, u32) {
 }
 
 fn strip(chance: &mut Chance, side: Side, now: u32) -> Vec<u8> {
-    let count = match chance.within(0..=199) {
+    let count = match chance.within(0..=999) {
+        // The formula takes a thousand times as long on these.
         0 => STRIP_WORDS + chance.place(3) - 1,
-        1..=5 => chance.place(300),
+        1..=25 => chance.place(300),
         _ => chance.place(9),
     };
     let number = chance.within(0..=side.carriers() - 1);

@@ -57,7 +57,7 @@ impl Held {
             Some(group) => group.close().map(|_| ()),
         };
         if let (Ok(()), Some(group)) = (answer, &self.history) {
-            self.record = GroupRecord::of_history(group);
+            self.record = GroupRecord::of_close(group, &self.record);
         }
         GroupAnswer::new(answer, self.record)
     }
