@@ -69,6 +69,21 @@ impl GroupRecord {
         }
     }
 
+    /// The words that `from_words` takes.
+    pub fn words(&self) -> Vec<u64> {
+        let head = u64::from(self.number) | u64::from(self.closed) << 32;
+        let sheet_marks = self.sheet_marks.as_flattened();
+        let fields: [&[u64]; 6] = [
+            &[head, self.members],
+            &self.model_marks,
+            &self.added,
+            &self.liberal,
+            sheet_marks,
+            &self.grants,
+        ];
+        fields.concat()
+    }
+
     pub fn of_history(group: &Group) -> GroupRecord {
         GroupRecord::with_grants(group, grants(group, |_, _| None))
     }

@@ -104,7 +104,7 @@ pub unsafe extern "C" fn ferrulebee_mask(
     ValueAnswer::from(list.iter().enumerate().map(bit).try_fold(0, |mask, bit| Ok(mask | bit?)))
 }
 
-/// Wrong: the word beyond the records doesn't stay.
+/// Wrong: the word beyond the records doesn't stay, whether it is lent or not.
 #[no_mangle]
 pub unsafe extern "C" fn ferrulebee_book_read(
     book: *const u8,
@@ -112,13 +112,11 @@ pub unsafe extern "C" fn ferrulebee_book_read(
     list: *mut u32,
     list_words: usize,
 ) -> BookReadAnswer {
-    let list = from_raw_parts_mut(list, list_words);
-    let answer = book::read(from_raw_parts(book, book_bytes), list.len());
+    let answer = book::read(from_raw_parts(book, book_bytes), list_words);
     if let Ok(group) = &answer {
         let mut words = group.book_words();
         words.extend(wrong("book_read").then_some(0));
-        words.truncate(list.len());
-        list[..words.len()].copy_from_slice(&words);
+        list.copy_from(words.as_ptr(), words.len());
     }
     BookReadAnswer::from(answer.map(|group| GroupRecord::of_history(&group)))
 }

@@ -2,7 +2,8 @@
 //! the second program makes of the same run.
 //!
 //! A line of such a case is a call by its name in the header and its numbers: the group's
-//! position, the file's number, what the call itself takes, the room that is lent.
+//! position, the file's number, what the call itself takes. Where room is lent, the last
+//! number says how much more than is needed: `-1` is one too short, also of a case made small.
 
 pub mod author;
 mod lending;
@@ -19,7 +20,8 @@ use numbers::{same, Code, Judged};
 use second::answers::{BookReadAnswer, BookWriteAnswer, DeliveryAnswer, Part, ValueAnswer};
 use second::book;
 use second::group::Group;
-use second::judge::{evidence, judge_bytes, words};
+use second::judge::{evidence, judge, judge_bytes, words, Moment, Verdict};
+use second::limits::{BOOK_HEADER, BOOK_RECORDS, DELIVERY_HEADER, WORD_BYTES};
 use second::record::GroupRecord;
 use second::refusal::Refusal;
 use station::{Held, Station};
@@ -57,7 +59,8 @@ impl<'a> Run<'a> {
     fn call(&mut self, line: &str) -> Option<Compared> {
         let mut words = line.split(' ');
         let name = words.next()?;
-        let numbers: Vec<u32> = words.map(|word| word.parse().ok()).collect::<Option<_>>()?;
+        let number = |word: &str| word.parse::<i64>().ok().map(|number| number as u32);
+        let numbers: Vec<u32> = words.map(number).collect::<Option<_>>()?;
         Some(match (name, numbers.as_slice()) {
             ("fresh", &[at, number]) => self.fresh(at, number),
             ("lend", &[at, file]) => self.lend(at, file),
@@ -66,12 +69,12 @@ impl<'a> Run<'a> {
             ("read", &[at, model, sheet]) => self.read(at, model, sheet),
             ("models", &[at, sheet]) => self.models(at, sheet),
             ("mask", &[groups, model, sheet]) => self.mask(groups, model, sheet),
-            ("book_read", &[at, file, room]) => self.book_read(at, file, room),
-            ("book_write", &[file, ticks, number, room]) => {
-                self.book_write(file, ticks, number, room)
+            ("book_read", &[at, file, more]) => self.book_read(at, file, more),
+            ("book_write", &[file, ticks, number, more]) => {
+                self.book_write(file, ticks, number, more)
             }
             ("tick_part", &[file, tick]) => self.tick_part(file, tick),
-            ("deliver", &[at, model, file, room]) => self.deliver(at, model, file, room),
+            ("deliver", &[at, model, file, more]) => self.deliver(at, model, file, more),
             ("judge", &[file, now]) => self.judge(file, now),
             ("evidence", &[file, now]) => self.evidence(file, now),
             _ => return None,
@@ -142,9 +145,10 @@ impl<'a> Run<'a> {
     }
 
     /// An accepted book is written again, and comes out as it was.
-    fn book_read(&mut self, at: u32, file: u32, room: u32) -> Compared {
+    fn book_read(&mut self, at: u32, file: u32, more: u32) -> Compared {
         let book = self.file("book", file);
-        let answer = self.read_book(book, room as usize)?;
+        let count = words(book).get(2).map_or(0, |&count| count.min(BOOK_RECORDS));
+        let answer = self.read_book(book, room(count as usize, more))?;
         let sort = sort("book_read", code(&answer), "group");
         if let Ok(group) = answer.as_ref().map(Held::group) {
             let records = group.book_words();
@@ -169,9 +173,10 @@ impl<'a> Run<'a> {
     }
 
     /// A book that was written is read again, and has the same records.
-    fn book_write(&mut self, file: u32, ticks: u32, number: u32, room: u32) -> Compared {
+    fn book_write(&mut self, file: u32, ticks: u32, number: u32, more: u32) -> Compared {
         let records = words(self.file("words", file));
-        let answer = self.write_book(&records, ticks, number, room as usize)?;
+        let room = room(BOOK_HEADER + WORD_BYTES * records.len(), more);
+        let answer = self.write_book(&records, ticks, number, room)?;
         if let Ok(book) = &answer {
             let again = self.read_book(book, records.len())?.map(|held| held.group().book_words());
             assert_eq!(again, Ok(records), "the second program's own reader");
@@ -215,9 +220,11 @@ impl<'a> Run<'a> {
         Ok(sort("tick_part", 0, kind))
     }
 
-    fn deliver(&mut self, at: u32, model: u32, file: u32, room: u32) -> Compared {
-        let (store, room) = (self.file("store", file), room as usize);
+    fn deliver(&mut self, at: u32, model: u32, file: u32, more: u32) -> Compared {
+        let store = self.file("store", file);
         let held = self.station.at(at);
+        let whole = held.record.deliver(model, store, u64::MAX);
+        let room = room(whole.map_or(DELIVERY_HEADER as usize, |delivery| delivery.len()), more);
         let answer = held.record.deliver(model, store, room as u64);
         let delivery = answer.as_deref().unwrap_or(&[]);
         let expected = answer.as_ref().map(Vec::len).map_err(|refusal| *refusal);
@@ -249,10 +256,11 @@ impl<'a> Run<'a> {
         same(&expected, &got)?;
         same_lent("the model's strip", &Lent::new(&model), &lent_model)?;
         same_lent("the sheet's strip", &Lent::new(&sheet), &lent_sheet)?;
-        let kind = match (expected.count, expected.list) {
-            (0, _) => "none",
-            (_, 0) => "of the model",
-            _ => "of the sheet",
+        let kind = match judge(&model, &sheet, now) {
+            Err(_) => "refused",
+            Ok(Verdict::Denied(_)) => "denied",
+            Ok(Verdict::Granted(Moment::Add(_))) => "of the sheet",
+            Ok(Verdict::Granted(Moment::Join(_))) => "of the model",
         };
         Ok(sort("evidence", 0, kind))
     }
@@ -260,6 +268,11 @@ impl<'a> Run<'a> {
 
 fn code<T>(answer: &Result<T, Refusal>) -> u32 {
     answer.as_ref().map_or_else(|refusal| refusal.number, |_| 0)
+}
+
+/// So much more than is needed, or less.
+fn room(needed: usize, more: u32) -> usize {
+    needed.saturating_add_signed(more as i32 as isize)
 }
 
 fn some(count: u32) -> &'static str {

@@ -3,7 +3,7 @@
 
 use super::record_of;
 use super::station::{Held, Station};
-use crate::books::{any_book, book_near_the_last_tick, event, good_book};
+use crate::books::{any_book, book_near_the_last_tick, event, flip_a_bit, good_book};
 use crate::case::{Case, Run, Trial};
 use crate::chance::Chance;
 use crate::judging::strips;
@@ -13,7 +13,10 @@ use second::event::{Event, Side};
 use second::judge::words;
 use second::limits::{BOOK_HEADER, GROUPS, LAST_TICK, STATION_GROUPS, STRIP_WORDS, WORD_BYTES};
 use second::record::{has, GroupRecord};
-use std::mem::size_of;
+use std::mem::{offset_of, size_of};
+
+/// The bytes of a group before its grants.
+const MARKS_END: usize = offset_of!(GroupRecord, grants);
 
 /// Two more than a list may have.
 const POSITIONS: u32 = STATION_GROUPS as u32 + 2;
@@ -37,10 +40,10 @@ pub fn calls(chance: &mut Chance) -> Case {
     let (case, station) = (Case::new(Trial::Library), Station::default());
     let mut author = Author { chance, case, station, models, sheets, liberal };
     match author.chance.within(0..=99) {
-        0..=44 => author.running_gate(),
-        45..=59 => author.station_of_groups(),
-        60..=74 => author.books(),
-        75..=89 => author.deliveries(),
+        0..=34 => author.running_gate(),
+        35..=46 => author.station_of_groups(),
+        47..=69 => author.books(),
+        70..=91 => author.deliveries(),
         _ => author.judges(),
     }
     author.case
@@ -93,15 +96,32 @@ impl Author<'_> {
 
     fn fresh(&mut self, at: u32) {
         let number = match self.chance.percent(30) {
-            true => self.chance.one_of(&[15, 16, 17, 255, 1 << 31, u32::MAX]),
+            true => self.any_number(&[15, 16, 17, 255, u32::MAX]),
             false => self.chance.within(0..=GROUPS - 1),
         };
         self.station.fresh(at, number);
         self.say(format!("fresh {at} {number}"));
     }
 
+    /// A number at an edge, or any at all.
+    fn any_number(&mut self, edges: &[u32]) -> u32 {
+        match self.chance.percent(70) {
+            true => self.chance.one_of(edges),
+            false => self.chance.next() as u32,
+        }
+    }
+
+    /// Any contents, or those of the position with one to three bits changed.
     fn lend(&mut self, at: u32) {
-        let bytes = any_contents(self.chance);
+        let mut bytes = any_contents(self.chance);
+        if self.chance.percent(40) {
+            let words = self.station.at(at).record.words();
+            bytes = words.iter().flat_map(|word| word.to_le_bytes()).collect();
+            for _ in 0..self.chance.within(1..=3) {
+                let within = self.chance.one_of(&[MARKS_END, usize::MAX]);
+                flip_a_bit(self.chance, &mut bytes, within);
+            }
+        }
         self.station.put(at, Held::lent(record_of(&bytes)));
         let file = self.lay_out("group", bytes);
         self.say(format!("lend {at} {file}"));
@@ -120,7 +140,7 @@ impl Author<'_> {
         }
         self.station.put(at, Held::of_history(group));
         let file = self.lay_out("book", book);
-        self.say(format!("book_read {at} {file} {STRIP_WORDS}"));
+        self.say(format!("book_read {at} {file} +0"));
     }
 
     /// A request that is taken unless the carrier had one in this tick.
@@ -136,11 +156,11 @@ impl Author<'_> {
 
     fn request_out_of_turn(&mut self, at: u32) {
         let kind = match self.chance.within(0..=9) {
-            0 => self.chance.one_of(&[8, 9, 255, 256, 1 << 31, u32::MAX]),
+            0 => self.any_number(&[8, 9, 255, 256, u32::MAX]),
             _ => self.chance.within(0..=7),
         };
         let number = match self.chance.within(0..=3) {
-            0 => self.chance.one_of(&[63, 64, 255, 256, 511, 512, 1 << 31, u32::MAX]),
+            0 => self.any_number(&[63, 64, 255, 256, 511, 512, u32::MAX]),
             1 => self.chance.one_of(&self.models),
             _ => self.chance.one_of(&self.sheets),
         };
@@ -159,14 +179,14 @@ impl Author<'_> {
 
     fn a_model(&mut self) -> u32 {
         match self.chance.percent(5) {
-            true => self.chance.one_of(&[0, 63, 64, 255, 1 << 31, u32::MAX]),
+            true => self.any_number(&[0, 63, 64, 255, u32::MAX]),
             false => self.chance.one_of(&self.models),
         }
     }
 
     fn a_sheet(&mut self) -> u32 {
         match self.chance.percent(5) {
-            true => self.chance.one_of(&[0, 255, 256, 1 << 31, u32::MAX]),
+            true => self.any_number(&[0, 255, 256, u32::MAX]),
             false => self.chance.one_of(&self.sheets),
         }
     }
@@ -210,46 +230,58 @@ impl Author<'_> {
             if self.chance.percent(30) { good_book(self.chance) } else { any_book(self.chance) };
         let fields = words(&book[..book.len().min(BOOK_HEADER)]);
         let field = |place: usize| fields.get(place).copied().unwrap_or(0);
-        let (ticks, count, number) = (field(1), field(2), field(4));
+        let (ticks, number) = (field(1), field(4));
         let records = book[book.len().min(BOOK_HEADER)..].to_vec();
-        let room = self.room(count.min(STRIP_WORDS as u32));
         let file = self.lay_out("book", book);
-        self.say(format!("book_read 0 {file} {room}"));
+        let more = self.more();
+        self.say(format!("book_read 0 {file} {more:+}"));
         self.write(records, ticks, number);
     }
 
     /// The records as a list of words: written as a book, and asked tick by tick.
-    fn write(&mut self, mut records: Vec<u8>, ticks: u32, number: u32) {
-        if self.chance.within(0..=99) == 0 {
-            let length = WORD_BYTES * (STRIP_WORDS + self.chance.place(3));
-            records = self.chance.bytes(length);
-        }
-        let list = words(&records);
-        let room = self.room((BOOK_HEADER + WORD_BYTES * list.len()) as u32);
+    fn write(&mut self, records: Vec<u8>, ticks: u32, number: u32) {
+        let records = match self.chance.within(0..=99) {
+            0 => {
+                let length = WORD_BYTES * (STRIP_WORDS + self.chance.place(3));
+                self.chance.bytes(length)
+            }
+            1..=5 => self.rising_words(),
+            _ => records,
+        };
         let ticks = match self.chance.within(0..=9) {
-            0 => self.chance.one_of(&[0, LAST_TICK, LAST_TICK + 1, u32::MAX]),
+            0 => self.any_number(&[0, LAST_TICK, LAST_TICK + 1, u32::MAX]),
             1 => ticks.saturating_sub(1),
             _ => ticks,
         };
         let number = match self.chance.within(0..=9) {
-            0 => self.chance.one_of(&[15, 16, 17, u32::MAX]),
+            0 => self.any_number(&[15, 16, 17, u32::MAX]),
             _ => number,
         };
+        let list = words(&records);
         let file = self.lay_out("words", records);
-        self.say(format!("book_write {file} {ticks} {number} {room}"));
+        let more = self.more();
+        self.say(format!("book_write {file} {ticks} {number} {more:+}"));
         for _ in 0..3 {
             let tick = self.a_tick(&list);
             self.say(format!("tick_part {file} {tick}"));
         }
     }
 
-    /// Just enough, mostly; one too few; some more; any.
-    fn room(&mut self, exact: u32) -> u32 {
+    /// Words that rise, whatever they say.
+    fn rising_words(&mut self) -> Vec<u8> {
+        let count = self.chance.within(1..=30);
+        let mut words: Vec<u32> = (0..count).map(|_| self.chance.next() as u32).collect();
+        words.sort_unstable();
+        words.iter().flat_map(|word| word.to_le_bytes()).collect()
+    }
+
+    /// How much more room is lent than is needed: none, mostly; some; too little.
+    fn more(&mut self) -> i64 {
         match self.chance.within(0..=9) {
-            0..=4 => exact,
-            5 => exact.saturating_sub(1),
-            6 => self.chance.within(0..=exact),
-            _ => exact + self.chance.within(1..=40),
+            0..=4 => 0,
+            5 => -1,
+            6 => -i64::from(self.chance.within(1..=100)),
+            _ => i64::from(self.chance.within(1..=40)),
         }
     }
 
@@ -288,18 +320,14 @@ impl Author<'_> {
             true => self.a_granted_model(),
             false => self.a_model(),
         };
-        let (store, record) = (&self.case.files[file].bytes, self.station.at(0).record);
-        let delivery = record.deliver(model, store, u64::MAX);
-        let length = delivery.map_or(8, |delivery| delivery.len() as u32);
-        let room = self.room(length);
-        self.say(format!("deliver 0 {model} {file} {room}"));
+        let more = self.more();
+        self.say(format!("deliver 0 {model} {file} {more:+}"));
     }
 
     /// A model with something to be delivered, when one is found soon.
     fn a_granted_model(&mut self) -> u32 {
         let record = self.station.at(0).record;
-        let granted = (0..8).map(|_| self.chance.one_of(&self.models));
-        let tries: Vec<u32> = granted.collect();
+        let tries: Vec<u32> = (0..8).map(|_| self.chance.one_of(&self.models)).collect();
         *tries.iter().find(|&&model| !record.sheets_of(model).is_empty()).unwrap_or(&tries[0])
     }
 

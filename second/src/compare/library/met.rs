@@ -28,7 +28,7 @@ const ALL: [(&str, &[&str]); 18] = [
     ("tick_part", &["records", "empty at the start", "empty between", "empty at the end",
         "not rising"]),
     ("judge", &["101", "102", "103", "104", "105", "10", "11", "12", "13", "14"]),
-    ("evidence", &["of the model", "of the sheet", "none"]),
+    ("evidence", &["of the model", "of the sheet", "denied", "refused"]),
     ("lent", &["group"]),
 ];
 
