@@ -4,7 +4,8 @@
 //! p holds now and it held a tick ago.
 
 use crate::event::{Kind, KINDS};
-use crate::limits::{LAST_TICK, MODELS, SHEETS};
+use crate::group::{check_carrier, check_pair, check_request, check_tick_left};
+use crate::limits::{MODELS, SHEETS};
 use crate::record::{has, put, GroupRecord};
 use crate::refusal::{self, Refusal};
 use crate::store::deliver_sheets;
@@ -18,33 +19,18 @@ fn since(not_p: u64, q: u64, before: u64) -> u64 {
 impl GroupRecord {
     /// Refusals 1, 2, 3, 4, then 5 or 6.
     pub fn request(&mut self, kind: u32, number: u32) -> Result<(), Refusal> {
-        let kind = Kind::from_number(kind).ok_or(Refusal::plain(refusal::KIND))?;
-        let side = kind.side();
-        if number >= side.carriers() {
-            return Err(Refusal::plain(refusal::NUMBER));
-        }
-        if self.closed >= LAST_TICK {
-            return Err(Refusal::plain(refusal::TICKS_USED_UP));
-        }
-        let mut kinds = KINDS.into_iter().filter(|kind| kind.side() == side);
-        if kinds.any(|kind| has(self.marks(kind), number)) {
-            return Err(Refusal::plain(refusal::SECOND_IN_TICK));
-        }
-        match (kind.enters(), has(self.inside(side), number)) {
-            (true, true) => Err(Refusal::plain(refusal::ALREADY_IN)),
-            (false, false) => Err(Refusal::plain(refusal::NOT_IN)),
-            _ => {
-                put(self.marks_mut(kind), number, true);
-                Ok(())
-            }
-        }
+        let kind = check_request(kind, number, self.closed)?;
+        let of_side = |other: &Kind| other.side() == kind.side();
+        let mut kinds = KINDS.into_iter().filter(of_side);
+        let has_event = kinds.any(|kind| has(self.marks(kind), number));
+        check_carrier(kind, has_event, has(self.inside(kind.side()), number))?;
+        put(self.marks_mut(kind), number, true);
+        Ok(())
     }
 
     /// Refusal 3.
     pub fn close(&mut self) -> Result<(), Refusal> {
-        if self.closed >= LAST_TICK {
-            return Err(Refusal::plain(refusal::TICKS_USED_UP));
-        }
+        check_tick_left(self.closed)?;
         let before = *self;
         let ([sj, lj, sl, ll], [sa, la, sr, lr]) = (before.model_marks, before.sheet_marks);
         *self = GroupRecord { closed: before.closed + 1, ..GroupRecord::fresh(before.number) };
@@ -64,9 +50,7 @@ impl GroupRecord {
 
     /// Refusal 2.
     pub fn read(&self, model: u32, sheet: u32) -> Result<bool, Refusal> {
-        if model >= MODELS || sheet >= SHEETS {
-            return Err(Refusal::plain(refusal::NUMBER));
-        }
+        check_pair(model, sheet)?;
         Ok(self.grants[sheet as usize] >> model & 1 == 1)
     }
 

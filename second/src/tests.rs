@@ -232,10 +232,11 @@ fn reads_counts_and_masks() {
     assert_eq!(group.models(0), Ok(1));
     assert_eq!(group.models(256), Err(Refusal::plain(2)));
     let station = [Group::default(), group.clone(), Group::default(), group.clone()];
-    assert_eq!(mask(&station, 1, 0), Ok(0b1010));
-    assert_eq!(mask(&station, 64, 0), Err(Refusal::plain(2)));
-    assert_eq!(mask(&[], 64, 0), Err(Refusal::plain(7)));
-    assert_eq!(mask(&vec![group; 17], 1, 0), Err(Refusal::plain(7)));
+    let granting = |station: &[Group], model| mask(station, |group| group.read(model, 0));
+    assert_eq!(granting(&station, 1), Ok(0b1010));
+    assert_eq!(granting(&station, 64), Err(Refusal::plain(2)));
+    assert_eq!(granting(&[], 64), Err(Refusal::plain(7)));
+    assert_eq!(granting(&vec![group; 17], 1), Err(Refusal::plain(7)));
     assert_eq!(Group::fresh(15).0.number, 15);
     let (zero, answer) = Group::fresh(16);
     assert_eq!((zero.number, answer), (0, Err(Refusal::plain(9))));

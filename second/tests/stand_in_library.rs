@@ -5,9 +5,8 @@ use second::answers::{
     BookReadAnswer, BookWriteAnswer, DeliveryAnswer, GroupAnswer, Part, ValueAnswer,
 };
 use second::book;
-use second::group::Group;
+use second::group::{self, Group};
 use second::judge;
-use second::limits::STATION_GROUPS;
 use second::record::GroupRecord;
 use second::refusal::{self, Refusal};
 use std::slice::{from_raw_parts, from_raw_parts_mut};
@@ -93,15 +92,11 @@ pub unsafe extern "C" fn ferrulebee_mask(
     model: u32,
     sheet: u32,
 ) -> ValueAnswer {
-    let list = from_raw_parts(list, groups);
-    if list.is_empty() || list.len() > STATION_GROUPS {
-        return ValueAnswer::from(Err(Refusal::plain(refusal::STATION)));
+    let mut mask = group::mask(from_raw_parts(list, groups), |group| group.read(model, sheet));
+    if wrong("mask") {
+        mask = mask.map(|mask| mask & 0x7fff | (mask & 0x8000) >> 1);
     }
-    let last = if wrong("mask") { STATION_GROUPS - 2 } else { STATION_GROUPS - 1 };
-    let bit = |(at, group): (usize, &GroupRecord)| {
-        group.read(model, sheet).map(|granted| u32::from(granted) << at.min(last))
-    };
-    ValueAnswer::from(list.iter().enumerate().map(bit).try_fold(0, |mask, bit| Ok(mask | bit?)))
+    ValueAnswer::from(mask.map(u32::from))
 }
 
 /// Wrong: the word beyond the records doesn't stay, whether it is lent or not.

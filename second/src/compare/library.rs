@@ -13,13 +13,13 @@ pub mod station;
 
 use crate::case::Case;
 use crate::differ::Difference;
-use crate::gate::{Library, LIBRARY};
+use crate::gate::{notice, Library, LIBRARY};
 use lending::{same_lent, Lent};
 use met::{sort, Met};
 use numbers::{same, Code, Judged};
 use second::answers::{BookReadAnswer, BookWriteAnswer, DeliveryAnswer, Part, ValueAnswer};
 use second::book;
-use second::group::Group;
+use second::group::{mask, Group};
 use second::judge::{evidence, judge, judge_bytes, words, Moment, Verdict};
 use second::limits::{BOOK_HEADER, BOOK_RECORDS, DELIVERY_HEADER, WORD_BYTES};
 use second::record::GroupRecord;
@@ -32,14 +32,12 @@ type Compared = Result<String, Difference>;
 
 /// How the gate's library differs on a case; None when it agrees.
 pub fn difference(case: &Case, met: &mut Met) -> io::Result<Option<Difference>> {
-    let Some(library) = LIBRARY else {
-        return Ok(None);
-    };
-    let mut run = Run { case, library, station: Station::default() };
+    let library = LIBRARY.ok_or_else(|| io::Error::other(notice()))?;
+    let mut calls = Calls { case, library, station: Station::default() };
     for line in &case.lines {
         let text = String::from_utf8_lossy(&line.text);
         let no_call = || io::Error::other(format!("`{text}` is no call of the library"));
-        match run.call(&text).ok_or_else(no_call)? {
+        match calls.call(&text).ok_or_else(no_call)? {
             Ok(sort) => met.add(sort),
             Err(Difference { said, sort }) => {
                 return Ok(Some(Difference { said: format!("`{text}`: {said}"), sort }));
@@ -49,13 +47,13 @@ pub fn difference(case: &Case, met: &mut Met) -> io::Result<Option<Difference>> 
     Ok(None)
 }
 
-struct Run<'a> {
+struct Calls<'a> {
     case: &'a Case,
     library: &'a Library,
     station: Station,
 }
 
-impl<'a> Run<'a> {
+impl<'a> Calls<'a> {
     fn call(&mut self, line: &str) -> Option<Compared> {
         let mut words = line.split(' ');
         let name = words.next()?;
@@ -137,10 +135,11 @@ impl<'a> Run<'a> {
     /// Over the groups of the first positions, side by side.
     fn mask(&mut self, groups: u32, model: u32, sheet: u32) -> Compared {
         let list: Vec<GroupRecord> = (0..groups).map(|at| self.station.at(at).record).collect();
-        let expected = ValueAnswer::from(station::mask(&list, model, sheet));
+        let expected =
+            ValueAnswer::from(mask(&list, |group| group.read(model, sheet)).map(u32::from));
         let lent = Lent::new(&list);
         same(&expected, &self.library.mask(lent.slice(), model, sheet))?;
-        same_lent("the list", &Lent::new(&list), &lent)?;
+        lent.stays("the list", &list)?;
         Ok(sort("mask", expected.code, some(expected.value)))
     }
 
@@ -168,7 +167,7 @@ impl<'a> Run<'a> {
         let got = self.library.book_read(lent_book.slice(), list.slice_mut());
         same(&BookReadAnswer::from(expected), &got)?;
         same_lent("the word list", &Lent::room(room).with_front(&records), &list)?;
-        same_lent("the book", &Lent::new(book), &lent_book)?;
+        lent_book.stays("the book", book)?;
         Ok(answer)
     }
 
@@ -199,7 +198,7 @@ impl<'a> Run<'a> {
         let got = self.library.book_write(ticks, number, lent_records.slice(), buffer.slice_mut());
         same(&BookWriteAnswer::from(expected), &got)?;
         same_lent("the buffer", &Lent::room(room).with_front(book), &buffer)?;
-        same_lent("the records", &Lent::new(records), &lent_records)?;
+        lent_records.stays("the records", records)?;
         Ok(answer)
     }
 
@@ -208,7 +207,7 @@ impl<'a> Run<'a> {
         let expected = Part::of(book::records_of_tick(&records, tick), [&records, &[]]);
         let lent = Lent::new(&records);
         same(&expected, &self.library.tick_part(lent.slice(), tick))?;
-        same_lent("the records", &Lent::new(&records), &lent)?;
+        lent.stays("the records", &records)?;
         let rises = records.is_sorted_by(|word, next| word < next);
         let kind = match (expected.count, expected.first) {
             _ if !rises => "not rising",
@@ -232,7 +231,7 @@ impl<'a> Run<'a> {
         let got = self.library.deliver(held.record, model, lent_store.slice(), out.slice_mut());
         same(&DeliveryAnswer::from(expected), &got)?;
         same_lent("the buffer", &Lent::room(room).with_front(delivery), &out)?;
-        same_lent("the store", &Lent::new(store), &lent_store)?;
+        lent_store.stays("the store", store)?;
         let sheets = words(delivery).first().copied().unwrap_or(0);
         Ok(held.sort("deliver", code(&answer), some(sheets)))
     }
@@ -243,8 +242,8 @@ impl<'a> Run<'a> {
         let (lent_model, lent_sheet) = (Lent::new(model), Lent::new(sheet));
         let got = self.library.judge(lent_model.slice(), lent_sheet.slice(), now);
         same(&expected, &Judged(got))?;
-        same_lent("the model's strip", &Lent::new(model), &lent_model)?;
-        same_lent("the sheet's strip", &Lent::new(sheet), &lent_sheet)?;
+        lent_model.stays("the model's strip", model)?;
+        lent_sheet.stays("the sheet's strip", sheet)?;
         Ok(format!("judge {}", expected.0 >> 32))
     }
 
@@ -254,8 +253,8 @@ impl<'a> Run<'a> {
         let (lent_model, lent_sheet) = (Lent::new(&model), Lent::new(&sheet));
         let got = self.library.evidence(lent_model.slice(), lent_sheet.slice(), now);
         same(&expected, &got)?;
-        same_lent("the model's strip", &Lent::new(&model), &lent_model)?;
-        same_lent("the sheet's strip", &Lent::new(&sheet), &lent_sheet)?;
+        lent_model.stays("the model's strip", &model)?;
+        lent_sheet.stays("the sheet's strip", &sheet)?;
         let kind = match judge(&model, &sheet, now) {
             Err(_) => "refused",
             Ok(Verdict::Denied(_)) => "denied",

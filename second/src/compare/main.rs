@@ -50,6 +50,7 @@ compare --help                    these lines
 --out FOLDER     where failing cases go (failures)
 --from CASE      the number of the first case (0)
 
+`library` fails, too, when 10000 cases or more never met some sort of answer.
 Without a SEED, or with SEED 0, a fresh one is taken; it is always printed. The programs
 beside compare are run when neither path is given. Case 3 of seed 9 alone is run again by
 `compare random 9 1 --from 3`. The exit status is 0 when all answers

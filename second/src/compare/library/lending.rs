@@ -2,28 +2,36 @@
 
 use super::numbers::{first_different, Numbers};
 use crate::differ::Difference;
+use second::record::GroupRecord;
 
-/// What guards and lent room are filled with.
+/// What guards and lent room are filled with: something else at each place, so that what is
+/// moved is seen, too.
 pub trait Filling: Copy + PartialEq + Numbers {
     const GUARDS: usize;
-    fn filling() -> Self;
+    fn filling(place: usize) -> Self;
 }
 
 impl Filling for u8 {
     const GUARDS: usize = 16;
-    fn filling() -> u8 {
-        0xa5
+    fn filling(place: usize) -> u8 {
+        0xa5 ^ place as u8
     }
 }
 
 impl Filling for u32 {
     const GUARDS: usize = 4;
-    fn filling() -> u32 {
-        0xa5a5_a5a5
+    fn filling(place: usize) -> u32 {
+        0xa5a5_a5a5 ^ place as u32
     }
 }
 
-#[derive(Clone)]
+impl Filling for GroupRecord {
+    const GUARDS: usize = 1;
+    fn filling(place: usize) -> GroupRecord {
+        GroupRecord::from_words((place as u64..).map(|word| 0xa5a5_a5a5_a5a5_a5a5 ^ word))
+    }
+}
+
 pub struct Lent<T> {
     all: Vec<T>,
     before: usize,
@@ -32,17 +40,19 @@ pub struct Lent<T> {
 
 impl<T: Filling> Lent<T> {
     pub fn new(contents: &[T]) -> Lent<T> {
+        let length = contents.len();
         // Bytes may be lent from any address on.
-        let before = T::GUARDS + contents.len() % 3 * usize::from(T::GUARDS > 1);
-        let mut all = vec![T::filling(); before];
+        let before = T::GUARDS + length % T::GUARDS;
+        let mut all = Vec::with_capacity(before + length + T::GUARDS);
+        all.extend((0..before).map(T::filling));
         all.extend_from_slice(contents);
-        all.resize(all.len() + T::GUARDS, T::filling());
-        Lent { all, before, length: contents.len() }
+        all.extend((0..T::GUARDS).map(T::filling));
+        Lent { all, before, length }
     }
 
     /// Room to be written to.
     pub fn room(length: usize) -> Lent<T> {
-        Lent::new(&vec![T::filling(); length])
+        Lent::new(&(0..length).map(T::filling).collect::<Vec<T>>())
     }
 
     /// The same with other contents at the front.
@@ -57,6 +67,11 @@ impl<T: Filling> Lent<T> {
 
     pub fn slice_mut(&mut self) -> &mut [T] {
         &mut self.all[self.before..self.before + self.length]
+    }
+
+    /// For a slice that is lent to be read only.
+    pub fn stays(&self, what: &str, contents: &[T]) -> Result<(), Difference> {
+        same_lent(what, &Lent::new(contents), self)
     }
 }
 

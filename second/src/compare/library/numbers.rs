@@ -1,6 +1,5 @@
 //! An answer's numbers by name, so that a difference can be said.
 
-use super::lending::Filling;
 use crate::differ::Difference;
 use second::answers::{
     BookReadAnswer, BookWriteAnswer, DeliveryAnswer, GroupAnswer, Part, ValueAnswer,
@@ -93,13 +92,6 @@ impl Numbers for GroupRecord {
             all.extend(numbered.map(|(place, word)| (format!("{name}[{place}] "), *word)));
         }
         all
-    }
-}
-
-impl Filling for GroupRecord {
-    const GUARDS: usize = 1;
-    fn filling() -> GroupRecord {
-        GroupRecord::from_words(std::iter::repeat(0xa5a5_a5a5_a5a5_a5a5))
     }
 }
 

@@ -4,9 +4,7 @@
 use super::met::sort;
 use second::answers::GroupAnswer;
 use second::group::Group;
-use second::limits::STATION_GROUPS;
 use second::record::GroupRecord;
-use second::refusal::{self, Refusal};
 
 #[derive(Clone)]
 pub struct Held {
@@ -87,16 +85,4 @@ impl Station {
         self.put(at, Held::of_history(group));
         GroupAnswer::new(answer, self.at(at).record)
     }
-}
-
-/// The positions whose records grant the pair, bit 0 the first. Refusals 7, 2.
-pub fn mask(list: &[GroupRecord], model: u32, sheet: u32) -> Result<u32, Refusal> {
-    if list.is_empty() || list.len() > STATION_GROUPS {
-        return Err(Refusal::plain(refusal::STATION));
-    }
-    let mut mask = 0;
-    for (position, record) in list.iter().enumerate() {
-        mask |= u32::from(record.read(model, sheet)?) << position;
-    }
-    Ok(mask)
 }
