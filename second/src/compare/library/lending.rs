@@ -28,7 +28,17 @@ impl Filling for u32 {
 impl Filling for GroupRecord {
     const GUARDS: usize = 1;
     fn filling(place: usize) -> GroupRecord {
-        GroupRecord::from_words((place as u64..).map(|word| 0xa5a5_a5a5_a5a5_a5a5 ^ word))
+        const WORD: u64 = 0xa5a5_a5a5_a5a5_a5a5;
+        GroupRecord {
+            number: u32::filling(place),
+            closed: u32::filling(place),
+            members: WORD,
+            model_marks: [WORD; 4],
+            added: [WORD; 4],
+            liberal: [WORD; 4],
+            sheet_marks: [[WORD; 4]; 4],
+            grants: [WORD; 256],
+        }
     }
 }
 
