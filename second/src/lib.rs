@@ -2,6 +2,7 @@
 //! and the report's formula, from the whole history each time, with no running state.
 //! It exists to be compared with the gate; where the two differ, one of them is wrong.
 
+pub mod answers;
 pub mod book;
 pub mod event;
 pub mod files;
@@ -9,8 +10,10 @@ pub mod formula;
 pub mod group;
 pub mod judge;
 pub mod keeper;
+pub mod lent;
 pub mod limits;
 pub mod listing;
+pub mod record;
 pub mod refusal;
 pub mod store;
 pub mod wrong;

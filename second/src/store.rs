@@ -14,12 +14,17 @@ pub fn deliver(group: &Group, model: u32, store: &[u8], buffer: u64) -> Result<V
     if model >= MODELS {
         return Err(Refusal::plain(refusal::NUMBER));
     }
-    let count = sheet_count(store)?;
     if group.reading == Reading::Entry {
-        refuse_any_bad_entry(store, count)?;
+        refuse_any_bad_entry(store, sheet_count(store)?)?;
     }
+    deliver_sheets(&group.sheets_of(model), store, buffer)
+}
+
+/// The delivery of these sheets, which stand by rising number. Refusals 31 to 34.
+pub fn deliver_sheets(granted: &[u32], store: &[u8], buffer: u64) -> Result<Vec<u8>, Refusal> {
+    let count = sheet_count(store)?;
     let mut sheets = Vec::new();
-    for sheet in group.sheets_of(model) {
+    for &sheet in granted {
         sheets.push((sheet, sheet_bytes(store, count, sheet)?));
     }
     let total = sheets

@@ -8,9 +8,11 @@ use crate::group::{mask, Group};
 use crate::judge::{self, evidence, judge, judge_bytes, Cause, Moment, Verdict};
 use crate::keeper::{run, Keeper, HELP};
 use crate::listing::listing;
+use crate::record::GroupRecord;
 use crate::refusal::Refusal;
 use crate::store::deliver;
 use crate::wrong::Reading;
+use std::mem::size_of;
 
 const FIRST_BOOK: [u32; 8] = [4610, 6144, 9730, 14849, 16386, 16901, 24065, 27648];
 
@@ -230,10 +232,11 @@ fn reads_counts_and_masks() {
     assert_eq!(group.models(0), Ok(1));
     assert_eq!(group.models(256), Err(Refusal::plain(2)));
     let station = [Group::default(), group.clone(), Group::default(), group.clone()];
-    assert_eq!(mask(&station, 1, 0), Ok(0b1010));
-    assert_eq!(mask(&station, 64, 0), Err(Refusal::plain(2)));
-    assert_eq!(mask(&[], 64, 0), Err(Refusal::plain(7)));
-    assert_eq!(mask(&vec![group; 17], 1, 0), Err(Refusal::plain(7)));
+    let granting = |station: &[Group], model| mask(station, |group| group.read(model, 0));
+    assert_eq!(granting(&station, 1), Ok(0b1010));
+    assert_eq!(granting(&station, 64), Err(Refusal::plain(2)));
+    assert_eq!(granting(&[], 64), Err(Refusal::plain(7)));
+    assert_eq!(granting(&vec![group; 17], 1), Err(Refusal::plain(7)));
     assert_eq!(Group::fresh(15).0.number, 15);
     let (zero, answer) = Group::fresh(16);
     assert_eq!((zero.number, answer), (0, Err(Refusal::plain(9))));
@@ -345,4 +348,40 @@ fn a_save_of_too_many_records() {
     let (output, memory) = keep(&[], script.as_bytes());
     assert!(output.ends_with("closed 65\nrefused 22\n"));
     assert!(memory.files.is_empty());
+}
+
+/// The next request of carrier 0 by a choice: nothing, strict or liberal.
+fn choose(group: &Group, side: Side, choice: u32) -> Option<u32> {
+    let is_in = group.strip(side, 0).last().is_some_and(|event| event.kind.enters());
+    let first = if side == Side::Model { 0 } else { 4 };
+    (choice > 0).then_some(first + 2 * u32::from(is_in) + choice - 1)
+}
+
+#[test]
+fn the_law_of_one_tick_agrees_with_the_formula() {
+    const TICKS: u32 = 4;
+    for code in 0..9_u32.pow(TICKS) {
+        let (mut group, mut lent, mut closed) =
+            (Group::default(), GroupRecord::fresh(0), GroupRecord::fresh(0));
+        for tick in 0..TICKS {
+            let choices = code / 9_u32.pow(tick) % 9;
+            for (side, choice) in [(Side::Model, choices % 3), (Side::Sheet, choices / 3)] {
+                if let Some(kind) = choose(&group, side, choice) {
+                    assert_eq!(group.request(kind, 0), lent.request(kind, 0));
+                }
+            }
+            assert_eq!(lent, GroupRecord::with_grants(&group, closed.grants));
+            assert_eq!(group.close().map(|_| ()), lent.close());
+            closed = GroupRecord::of_close(&group, &closed);
+            assert_eq!((lent, closed), (closed, GroupRecord::of_history(&group)), "{group:?}");
+        }
+    }
+}
+
+#[test]
+fn records_come_back_from_their_words() {
+    let record = GroupRecord::from_words((1..).map(|word: u64| word.wrapping_mul(0x9e37_79b9)));
+    assert_eq!(GroupRecord::from_words(record.words().into_iter()), record);
+    assert_eq!(8 * record.words().len(), size_of::<GroupRecord>());
+    assert_eq!((record.members, record.grants[255]), (2 * 0x9e37_79b9, 286 * 0x9e37_79b9));
 }

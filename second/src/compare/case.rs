@@ -9,8 +9,8 @@ pub type Folder = BTreeMap<Vec<u8>, Vec<u8>>;
 /// What a case is fed to, and what its answers are compared with.
 #[derive(Clone, Copy, Debug, PartialEq, Eq)]
 pub enum Trial {
-    /// The C library's judge on the files `model` and `sheet`, with now on the only line.
-    Judge,
+    /// A run of calls on the C library, a call a line.
+    Library,
     /// The file `book` through `listing`.
     Listing,
     /// A script through `keeper`, compared with the second program.
@@ -30,7 +30,7 @@ pub enum Run {
 }
 
 const TRIALS: [(&str, Trial); 4] = [
-    ("judge", Trial::Judge),
+    ("library", Trial::Library),
     ("listing", Trial::Listing),
     ("keeper", Trial::Keeper),
     ("pair", Trial::Pair),
@@ -73,10 +73,10 @@ impl Case {
     }
 
     pub fn judge(model: Vec<u8>, sheet: Vec<u8>, now: u32) -> Case {
-        let mut case = Case::new(Trial::Judge);
-        case.add_file(Run::Both, b"model", model);
-        case.add_file(Run::Both, b"sheet", sheet);
-        case.add_line(Run::Both, now.to_string().as_bytes());
+        let mut case = Case::new(Trial::Library);
+        case.add_file(Run::Both, b"model0", model);
+        case.add_file(Run::Both, b"sheet0", sheet);
+        case.add_line(Run::Both, format!("judge 0 {now}").as_bytes());
         case
     }
 

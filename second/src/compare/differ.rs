@@ -1,10 +1,9 @@
 //! Runs a case through the gate and through the second program, and says where they differ.
 
 use crate::case::{escape, Case, Folder, Run, Trial};
-use crate::gate;
+use crate::library::{self, met::Met};
 use crate::programs::{Outcome, Programs};
 use second::files::Memory;
-use second::judge::judge_bytes;
 use second::keeper::Keeper;
 use second::limits::STORE_HEADER;
 use second::listing::listing;
@@ -56,24 +55,11 @@ pub fn expected_of_keeper(case: &Case, run: Run) -> Expected {
 /// How the gate differs on this case; None when it agrees.
 pub fn difference(case: &Case, programs: &Programs) -> io::Result<Option<Difference>> {
     match case.trial {
-        Trial::Judge => Ok(judge_difference(case)),
+        Trial::Library => library::difference(case, &mut Met::default()),
         Trial::Listing => listing_difference(case, programs),
         Trial::Keeper => keeper_difference(case, programs),
         Trial::Pair => pair_difference(case, programs),
     }
-}
-
-fn judge_difference(case: &Case) -> Option<Difference> {
-    let (model, sheet) = (case.file(b"model"), case.file(b"sheet"));
-    let now =
-        case.lines.first().and_then(|line| std::str::from_utf8(&line.text).ok()?.parse().ok());
-    let now = now.unwrap_or(0);
-    let show = |packed: u64| format!("{} {}", packed >> 32, packed as u32);
-    let expected = judge_bytes(model, sheet, now);
-    let got = gate::judge(model, sheet, now)?;
-    let said = format!("judge: expected {}, the gate answers {}", show(expected), show(got));
-    let sort = format!("{} | {}", expected >> 32, got >> 32);
-    (expected != got).then_some(Difference { said, sort })
 }
 
 fn listing_difference(case: &Case, programs: &Programs) -> io::Result<Option<Difference>> {

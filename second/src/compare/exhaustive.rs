@@ -4,13 +4,15 @@
 use crate::books::{book_of, event};
 use crate::case::{Case, Run, Trial};
 use crate::differ::difference;
-use crate::gate;
+use crate::gate::{self, Library};
 use crate::programs::Programs;
 use crate::progress::Progress;
+use second::answers::ValueAnswer;
 use second::event::{Event, Side};
 use second::formula::History;
 use second::group::Group;
 use second::judge::{judge, judge_bytes, verdict, Verdict};
+use second::record::GroupRecord;
 use std::io;
 
 const MOST_TICKS: u32 = 6;
@@ -76,7 +78,7 @@ fn in_process() -> Option<Case> {
             progress.show(done);
         }
     }
-    let library = if gate::LINKED { ", by the C library" } else { "" };
+    let library = if gate::LIBRARY.is_some() { ", by the C library's judge and gate" } else { "" };
     println!(
         "exhaustive: {done} histories judged by the formula, by the group{library} in {:.1} s",
         progress.seconds()
@@ -89,17 +91,54 @@ fn one_history(model: &[Event], sheet: &[Event], now: u32) -> Option<Case> {
     let by_formula = verdict(&History::of_every_tick(model, sheet, now));
     let by_judge = judge(&m, &s, now);
     assert_eq!(by_judge, Ok(by_formula), "the second program's own judge: {model:?} {sheet:?}");
-    assert_eq!(
-        by_group(model, sheet, now),
-        by_formula.is_granted(),
-        "its own group: {model:?} {sheet:?}"
-    );
-    let (m, s) = (bytes(&m), bytes(&s));
-    let by_gate = gate::judge(&m, &s, now)?;
-    (by_gate != judge_bytes(&m, &s, now)).then(|| Case::judge(m, s, now))
+    let group = group_of(model, sheet, now);
+    let granted = group.read(0, 0) == Ok(true);
+    assert_eq!(granted, by_formula.is_granted(), "its own group: {model:?} {sheet:?}");
+    by_library(gate::LIBRARY?, &group, bytes(&m), bytes(&s))
 }
 
-fn by_group(model: &[Event], sheet: &[Event], now: u32) -> bool {
+/// The C library's judge on the strips, and its gate on the calls that make them.
+fn by_library(library: &Library, group: &Group, model: Vec<u8>, sheet: Vec<u8>) -> Option<Case> {
+    if library.judge(&model, &sheet, group.closed) != judge_bytes(&model, &sheet, group.closed) {
+        return Some(Case::judge(model, sheet, group.closed));
+    }
+    (!gate_agrees(library, group)).then(|| gate_case(group))
+}
+
+/// From fresh to the last close every request and close is taken; then the record and the
+/// read are as the history has them.
+fn gate_agrees(library: &Library, group: &Group) -> bool {
+    let mut gate = library.fresh(group.number);
+    let mut taken = gate.code == 0;
+    for tick in 1..=group.closed {
+        for event in group.events.iter().filter(|event| event.tick == tick) {
+            gate = library.request(gate.group, event.kind.number(), event.number);
+            taken &= gate.code == 0;
+        }
+        gate = library.close(gate.group);
+        taken &= gate.code == 0;
+    }
+    let read = library.read(gate.group, 0, 0);
+    let granted = group.read(0, 0).map(u32::from);
+    taken && gate.group == GroupRecord::of_history(group) && read == ValueAnswer::from(granted)
+}
+
+/// The same calls as a case.
+fn gate_case(group: &Group) -> Case {
+    let mut case = Case::new(Trial::Library);
+    let mut say = |line: String| case.add_line(Run::Both, line.as_bytes());
+    say(format!("fresh 0 {}", group.number));
+    for tick in 1..=group.closed {
+        for event in group.events.iter().filter(|event| event.tick == tick) {
+            say(format!("request 0 {} {}", event.kind.number(), event.number));
+        }
+        say("close 0".to_string());
+    }
+    say("read 0 0 0".to_string());
+    case
+}
+
+fn group_of(model: &[Event], sheet: &[Event], now: u32) -> Group {
     let mut group = Group::default();
     for tick in 1..=now {
         for event in model.iter().chain(sheet).filter(|event| event.tick == tick) {
@@ -108,7 +147,7 @@ fn by_group(model: &[Event], sheet: &[Event], now: u32) -> bool {
         }
         assert_eq!(group.close(), Ok(tick));
     }
-    group.read(0, 0) == Ok(true)
+    group
 }
 
 /// Many strips side by side in one group: 64 models by 256 sheets cover 16,384 histories.

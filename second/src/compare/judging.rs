@@ -6,8 +6,13 @@ use crate::chance::Chance;
 use second::event::Side;
 use second::limits::{LAST_TICK, STRIP_WORDS};
 
-/// Two strips and now, as bytes.
-pub fn strips(chance: &mut Chance) -> Case {
+pub fn judged(chance: &mut Chance) -> Case {
+    let (model, sheet, now) = strips(chance);
+    Case::judge(model, sheet, now)
+}
+
+/// Two strips, as bytes, and now.
+pub fn strips(chance: &mut Chance) -> (Vec<u8>, Vec<u8>, u32) {
     let now = match chance.within(0..=9) {
         0 => chance.one_of(&[0, LAST_TICK, LAST_TICK + 1, u32::MAX]),
         1..=2 => chance.within(0..=LAST_TICK),
@@ -15,13 +20,14 @@ pub fn strips(chance: &mut Chance) -> Case {
     };
     let model = strip(chance, Side::Model, now);
     let sheet = strip(chance, Side::Sheet, now);
-    Case::judge(model, sheet, now)
+    (model, sheet, now)
 }
 
 fn strip(chance: &mut Chance, side: Side, now: u32) -> Vec<u8> {
-    let count = match chance.within(0..=199) {
+    let count = match chance.within(0..=999) {
+        // The formula takes a thousand times as long on these.
         0 => STRIP_WORDS + chance.place(3) - 1,
-        1..=5 => chance.place(300),
+        1..=25 => chance.place(300),
         _ => chance.place(9),
     };
     let number = chance.within(0..=side.carriers() - 1);

@@ -8,6 +8,7 @@ mod differ;
 mod exhaustive;
 mod gate;
 mod judging;
+mod library;
 mod lockstep;
 mod long;
 mod programs;
@@ -23,7 +24,9 @@ mod tests;
 
 use case::Case;
 use chance::{fresh_seed, Chance};
-use differ::{difference, pair_is_sound};
+use differ::{difference, pair_is_sound, Difference};
+use library::author;
+use library::met::Met;
 use programs::Programs;
 use progress::Progress;
 use std::fs;
@@ -35,6 +38,7 @@ const HELP: &str = "\
 compare exhaustive                every history of one model and one sheet up to 6 ticks
 compare random  [SEED [COUNT]]    random and damaged books and stores, keeper scripts
 compare demand3 [SEED [COUNT]]    pairs of scripts that look the same to one model
+compare library [SEED [COUNT]]    random runs of calls on the whole C library
 compare judge   [SEED [COUNT]]    random strips through the C library's judge
 compare lockstep [SEED [COUNT]]   keeper scripts typed line by line, each answer awaited
 compare long    [SEED]            one keeper script that closes all 1,000,000 ticks
@@ -46,11 +50,15 @@ compare --help                    these lines
 --out FOLDER     where failing cases go (failures)
 --from CASE      the number of the first case (0)
 
+`library` fails, too, when 10000 cases or more never met some sort of answer.
 Without a SEED, or with SEED 0, a fresh one is taken; it is always printed. The programs
 beside compare are run when neither path is given. Case 3 of seed 9 alone is run again by
 `compare random 9 1 --from 3`. The exit status is 0 when all answers
 are equal, 1 when a case differs, 2 when something can't be run.
 ";
+
+/// So many cases of `library` have to meet every sort of answer.
+const ENOUGH_TO_MEET_ALL: u64 = 10_000;
 
 struct Options {
     words: Vec<String>,
@@ -146,6 +154,7 @@ impl Session<'_> {
             "exhaustive" => self.exhaustive(),
             "random" => self.cases(command, seed, count, random_case),
             "demand3" => self.cases(command, seed, count, sound_pair),
+            "library" => self.library(seed, count),
             "judge" => self.judge(seed, count),
             "lockstep" => self.lockstep(seed, count),
             "tally" => Ok(self.tally(seed, count)),
@@ -169,12 +178,23 @@ impl Session<'_> {
         count: u64,
         make: fn(&mut Chance) -> Case,
     ) -> Result<bool, String> {
+        self.cases_by(name, seed, count, make, |case| difference(case, self.programs))
+    }
+
+    fn cases_by(
+        &self,
+        name: &str,
+        seed: u64,
+        count: u64,
+        make: fn(&mut Chance) -> Case,
+        mut difference: impl FnMut(&Case) -> io::Result<Option<Difference>>,
+    ) -> Result<bool, String> {
         println!("{name}: seed {seed}, {count} cases from case {}", self.options.from);
         let mut progress = Progress::new(name, count);
         for done in 0..count {
             let number = self.options.from + done;
             let case = make(&mut Chance::of_case(seed, number));
-            if difference(&case, self.programs).map_err(|error| error.to_string())?.is_some() {
+            if difference(&case).map_err(|error| error.to_string())?.is_some() {
                 println!("{name}: case {number} of seed {seed} differs");
                 return self.failed(&case, &format!("{name}-{seed}-{number}"));
             }
@@ -186,10 +206,24 @@ impl Session<'_> {
 
     fn judge(&self, seed: u64, count: u64) -> Result<bool, String> {
         println!("judge: {}", gate::notice());
-        match gate::LINKED {
-            true => self.cases("judge", seed, count, judging::strips),
-            false => Ok(true),
+        match gate::LIBRARY {
+            Some(_) => self.cases("judge", seed, count, judging::judged),
+            None => Ok(true),
         }
+    }
+
+    fn library(&self, seed: u64, count: u64) -> Result<bool, String> {
+        println!("library: {}", gate::notice());
+        if gate::LIBRARY.is_none() {
+            return Ok(true);
+        }
+        let mut met = Met::default();
+        let differs = |case: &Case| library::difference(case, &mut met);
+        if !self.cases_by("library", seed, count, author::calls, differs)? {
+            return Ok(false);
+        }
+        println!("library: {} calls compared, and these answers met:", met.calls());
+        Ok(met.print() || count < ENOUGH_TO_MEET_ALL)
     }
 
     fn lockstep(&self, seed: u64, count: u64) -> Result<bool, String> {

@@ -101,7 +101,7 @@ impl Shrinker<'_> {
 
     /// Takes records out of a book, or words out of a strip, with the header put right.
     fn drop_records(&mut self, case: &mut Case, name: &[u8]) {
-        let header = if name == b"model" || name == b"sheet" { 0 } else { BOOK_HEADER };
+        let header = if name.starts_with(b"book") { BOOK_HEADER } else { 0 };
         let records = |case: &Case| case.file(name).len().saturating_sub(header) / WORD_BYTES;
         self.by_parts(case, records, |case, start, end| {
             for bytes in files_named(case, name) {

@@ -5,6 +5,7 @@ use crate::case::{Case, Run};
 use crate::chance::Chance;
 use crate::demand3::pair;
 use crate::differ::pair_is_sound;
+use crate::library::author::calls;
 use crate::random_case;
 use crate::scripts::script;
 use crate::shrink::shrink;
@@ -43,8 +44,9 @@ fn pairs_are_sound_and_differ() {
 
 #[test]
 fn cases_come_back_from_their_text() {
-    for mut chance in chances(200) {
-        let case = random_case(&mut chance);
+    let made =
+        |make: fn(&mut Chance) -> Case| chances(200).map(move |mut chance| make(&mut chance));
+    for case in made(random_case).chain(made(calls)) {
         let again = Case::from_text(&case.to_text()).unwrap();
         assert_eq!(again.trial, case.trial);
         assert_eq!(again.input(Run::Left), case.input(Run::Left));

@@ -1,0 +1,71 @@
+//! Which sorts of answers the compared calls had: none may be missing.
+
+use std::collections::BTreeMap;
+
+/// Every sort of answer, by call; `lent` is a call on a group of any contents.
+#[rustfmt::skip]
+const ALL: [(&str, &[&str]); 18] = [
+    ("fresh", &["group", "refused 9"]),
+    ("request", &["taken", "refused 1", "refused 2", "refused 3", "refused 4", "refused 5",
+        "refused 6"]),
+    ("close", &["closed", "refused 3"]),
+    ("read", &["granted", "denied", "refused 2"]),
+    ("models", &["some", "none", "refused 2"]),
+    ("deliver", &["some", "none", "refused 2", "refused 31", "refused 32", "refused 33",
+        "refused 34"]),
+    ("lent request", &["taken", "refused 1", "refused 2", "refused 3", "refused 4", "refused 5",
+        "refused 6"]),
+    ("lent close", &["closed", "refused 3"]),
+    ("lent read", &["granted", "denied", "refused 2"]),
+    ("lent models", &["some", "none", "refused 2"]),
+    ("lent deliver", &["some", "none", "refused 2", "refused 31", "refused 32", "refused 33",
+        "refused 34"]),
+    ("mask", &["some", "none", "refused 7", "refused 2"]),
+    ("book_read", &["group", "refused 20", "refused 21", "refused 22", "refused 23", "refused 24",
+        "refused 25", "refused 26", "refused 28"]),
+    ("book_write", &["book", "refused 22", "refused 24", "refused 25", "refused 26",
+        "refused 27"]),
+    ("tick_part", &["records", "empty at the start", "empty between", "empty at the end",
+        "not rising"]),
+    ("judge", &["101", "102", "103", "104", "105", "10", "11", "12", "13", "14"]),
+    ("evidence", &["of the model", "of the sheet", "denied", "refused"]),
+    ("lent", &["group"]),
+];
+
+/// The sort of an answer: its refusal, or how it is called when it is accepted.
+pub fn sort(call: &str, code: u32, accepted: &str) -> String {
+    match code {
+        0 => format!("{call} {accepted}"),
+        _ => format!("{call} refused {code}"),
+    }
+}
+
+#[derive(Default)]
+pub struct Met {
+    counts: BTreeMap<String, u64>,
+}
+
+impl Met {
+    pub fn add(&mut self, sort: String) {
+        *self.counts.entry(sort).or_default() += 1;
+    }
+
+    pub fn calls(&self) -> u64 {
+        self.counts.values().sum()
+    }
+
+    /// Prints the counts call by call; true when every sort was met.
+    pub fn print(&self) -> bool {
+        let mut complete = true;
+        for (call, sorts) in ALL {
+            let count = |sort: &&str| self.counts.get(&format!("{call} {sort}")).copied();
+            let shown = sorts.iter().map(|sort| format!("{sort}: {}", count(sort).unwrap_or(0)));
+            println!("  {call}: {}", shown.collect::<Vec<_>>().join(", "));
+            for sort in sorts.iter().filter(|sort| count(sort).is_none()) {
+                println!("never met: {call} {sort}");
+                complete = false;
+            }
+        }
+        complete
+    }
+}
