@@ -4,6 +4,7 @@ use mathlib.Core.Bool.{Bool, true, false, cond}
 use Prim.Native.Nat.{ℕ, zero, suc, _+_, _≤_, _<_}
 use native.Mathlib.Omega.{arith}
 use Rattle.base.specs.HowMany.{howMany}
+use Rattle.base.proofs.Truth.{one-le}
 
 -- two tests that agree below n count alike
 pub howMany-ext : (p q : ℕ → Bool) (n : ℕ) → ((k : ℕ) → k < n → p k ≡ q k) → howMany p n ≡ howMany q n
@@ -18,10 +19,6 @@ howMany-first p zero = omega arith
 howMany-first p (suc n) =
     let e : howMany p (suc n) ≡ cond (p 0) 1 0 + howMany (λ k. p (suc k)) n = howMany-first p n in
     omega arith
-
-one-le : (b : Bool) → cond b 1 0 ≤ 1
-one-le true = omega arith
-one-le false = omega arith
 
 pub howMany-le : (p : ℕ → Bool) (n : ℕ) → howMany p n ≤ n
 unfolding howMany

@@ -4,3 +4,4 @@ pub mod Front
 pub mod HowMany
 pub mod Rules
 pub mod Table
+pub mod Truth

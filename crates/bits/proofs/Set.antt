@@ -12,7 +12,7 @@ use lib.ListN.{length, getD, set, length-set, List·getD-eq-default}
 use lib.Seq.{getD-set-same, getD-set-other}
 use borrow.Author.Tests.{eq-eqb, ne-eqb, eqb-true, eqb-false, ltb-true, ltb-false}
 use Rattle.base.specs.Table.{table}
-use Rattle.base.proofs.First.{either as truth}
+use Rattle.base.proofs.Truth.{either as truth}
 use Rattle.base.proofs.Table.{length-table, getD-table}
 use Rattle.bits.specs.Bit.{width, bit, withBit, afterWord}
 use Rattle.bits.specs.Set.{none, has, with, either, after, Words}

@@ -1,6 +1,6 @@
 -- A delivery's reader finds the granted sheets, each with the store's bytes. Assumes nothing.
 use mathlib.Core.Path.{_≡_, refl, sym, ap, ap₂, _∙_, subst}
-use mathlib.Core.Bool.{Bool, true, false, not, cond}
+use mathlib.Core.Bool.{Bool, true, false, not, cond, true≢false}
 use mathlib.Core.List.{List, [], _∷_, _++_, append-assoc, map}
 use mathlib.Core.Logic.{_↔_}
 use Prim.Native.Nat.{ℕ, suc, _+_, _≤_, _<_}
@@ -42,15 +42,12 @@ record Passed (a b c d : Bool) (n k : ℕ) : Type 0 where
   room : d ≡ false
   total : n ≡ k
 
-apart : _≡_ {A = ℕ} 0 1 → ⊥
-apart e = omega arith
-
 passed : (a b c d : Bool) (x y n k : ℕ)
     → cond a (Refused badNumber 0) (cond b (Refused badStore 0) (cond c (Refused x y) (cond d (Refused deliveryTooLong 0) (Delivered n)))) ≡ Delivered k → Passed a b c d n k
-passed true b c d x y n k e = absurd (apart (cc e))
-passed false true c d x y n k e = absurd (apart (cc e))
-passed false false true d x y n k e = absurd (apart (cc e))
-passed false false false true x y n k e = absurd (apart (cc e))
+passed true b c d x y n k e = absurd (true≢false (cc e))
+passed false true c d x y n k e = absurd (true≢false (cc e))
+passed false false true d x y n k e = absurd (true≢false (cc e))
+passed false false false true x y n k e = absurd (true≢false (cc e))
 passed false false false false x y n k e = record { number = refl; store = refl; sheet = refl; room = refl; total = cc e }
 
 module _ (grants : List ℕ) (m : ℕ) (store : List ℕ) where

@@ -8,7 +8,7 @@ use lib.Dec.{leb}
 use lib.Bits.{bitOr, or-lt}
 use lib.ListN.{getD}
 use borrow.Author.Tests.{leb-false, le-leb, lt-leb}
-use Rattle.base.proofs.First.{either as truth}
+use Rattle.base.proofs.Truth.{either as truth}
 use Rattle.base.proofs.Table.{getD-table}
 use Rattle.rules.specs.Kinds.{SJ, LJ, SL, LL, SA, LA, SR, LR}
 use Rattle.rules.specs.Ranges.{sheets, ticks}

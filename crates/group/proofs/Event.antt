@@ -7,7 +7,7 @@ use Prim.Native.Nat.{ℕ, zero, suc, _≤_, _<_}
 use native.Mathlib.Omega.{arith}
 use lib.Dec.{eqb}
 use borrow.Author.Tests.{eqb-true, ltb-true, ltb-false, lt-ltb, le-ltb, eq-eqb, ne-eqb, not-true}
-use Rattle.base.proofs.First.{either}
+use Rattle.base.proofs.Truth.{either, both}
 use Rattle.rules.specs.Kinds.{SJ, LJ, SL, LL, SA, LA, SR, LR, quiet}
 use Rattle.rules.specs.Ranges.{sheets}
 use Rattle.group.specs.Accepted.{Accepted}
@@ -77,11 +77,6 @@ unmarked g i (suc (suc (suc (suc (suc zero))))) l h = none-of (mark g SA i) (mar
 unmarked g i (suc (suc (suc (suc (suc (suc zero)))))) l h = none-of (mark g SA i) (mark g LA i) (mark g SR i) (mark g LR i) h .2
 unmarked g i (suc (suc (suc (suc (suc (suc (suc zero))))))) l h = none-of (mark g SA i) (mark g LA i) (mark g SR i) (mark g LR i) h .3
 unmarked g i (suc (suc (suc (suc (suc (suc (suc (suc k)))))))) l h = absurd (omega arith)
-
-both : (a b : Bool) → a && b ≡ true → (a ≡ true) × (b ≡ true)
-both true true h = (refl, refl)
-both true false h = absurd (true≢false (sym h))
-both false b h = absurd (true≢false (sym h))
 
 not-both : (a b : Bool) → a && b ≡ false → a ≡ true → b ≡ true → ⊥
 not-both true true h t u = true≢false h

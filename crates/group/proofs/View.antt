@@ -9,7 +9,7 @@ use lib.Dec.{eqb, leb}
 use lib.ListN.{getD}
 use borrow.Author.Tests.{ltb-true, ne-eqb, leb-false}
 use Rattle.base.specs.Table.{table}
-use Rattle.base.proofs.First.{either as truth}
+use Rattle.base.proofs.Truth.{either as truth}
 use Rattle.base.specs.HowMany.{howMany}
 use Rattle.base.proofs.HowMany.{howMany-ext}
 use Rattle.base.proofs.Table.{getD-table, table-ext}

@@ -10,7 +10,7 @@ use native.Mathlib.Omega.{arith}
 use lib.Dec.{eqb, leb}
 use lib.ListN.{length, getD, getD-replicate}
 use borrow.Author.Tests.{eqb-true, eqb-false, leb-false}
-use Rattle.base.proofs.First.{either}
+use Rattle.base.proofs.Truth.{either}
 use Rattle.rules.specs.Kinds.{LJ, SL, SA, LA, SR, LR, isAdd, isRemove}
 use Rattle.rules.specs.Ranges.{models, sheets, groups, ticks}
 use Rattle.bits.specs.Bit.{bit}

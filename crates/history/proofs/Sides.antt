@@ -6,14 +6,13 @@ use Prim.Native.Nat.{ℕ, suc, _%_, _≤_, _<_}
 use native.Mathlib.Omega.{arith}
 use lib.Dec.{eqb}
 use borrow.Author.Tests.{not-true, eqb-true, eqb-false, eq-eqb, ne-eqb}
-use Rattle.base.proofs.First.{either}
+use Rattle.base.proofs.Truth.{either, both}
 use Rattle.rules.specs.Kinds.{SJ, LJ, SL, LL, SA, LA, SR, LR}
 use Rattle.rules.specs.Ranges.{models, sheets}
 use Rattle.event.specs.Word.{kindOf, numberOf}
 use Rattle.strip.specs.declared.Side.{Side}
 use Rattle.strip.specs.declared.Side.the-variants.{Model, Sheet}
 use Rattle.strip.specs.Good.{enters, leaves, range, turn}
-use Rattle.strip.proofs.Places.{both}
 use Rattle.group.specs.Carrier.{ofModel, carriers, entering}
 use Rattle.group.specs.Close.{closedGroup}
 use Rattle.group.specs.Fits.{Fits}

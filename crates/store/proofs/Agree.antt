@@ -9,7 +9,8 @@ use borrow.Author.Tests.{ltb-true, ltb-false}
 use lib.Dec.{leb, ltb, eqb}
 use lib.ListN.{length, getD}
 use Rattle.base.specs.First.{first}
-use Rattle.base.proofs.First.{either, first-le, first-there}
+use Rattle.base.proofs.First.{first-le, first-there}
+use Rattle.base.proofs.Truth.{either, both}
 use Rattle.rules.specs.Ranges.{models, sheets}
 use Rattle.rules.specs.Refusals.{notInStore, badEntry}
 use Rattle.wire.specs.Word.{le32, bytes32}
@@ -22,7 +23,6 @@ use Rattle.store.specs.Fault.{faulty, firstFaulty}
 use Rattle.store.specs.Delivery.{part, parts, deliveryOf, grantedSheets}
 use Rattle.store.specs.Answer.{answer, written, bufferAfter}
 use Rattle.store.specs.Agree.{Agree}
-use Rattle.store.proofs.Store.{both}
 use Rattle.store.proofs.Entry.{fault-missing, sound}
 use Rattle.store.proofs.Fault.{fault-free}
 use Rattle.store.proofs.Listed.{granted-exactly}

@@ -9,7 +9,7 @@ use native.Mathlib.Numerals.{add-one}
 use native.Mathlib.Omega.{arith}
 use lib.ListN.{length, getD, drop, length-append, List·getD-append}
 use lib.Seq.{getD-append-seam, drop-at}
-use Rattle.base.proofs.First.{either}
+use Rattle.base.proofs.Truth.{either}
 use Rattle.rules.specs.Ranges.{sheets}
 use Rattle.wire.specs.Word.{le32, bytes32}
 use Rattle.store.specs.Entry.{offset, sheetLength}

@@ -9,7 +9,7 @@ use native.Mathlib.Numerals.{add-one}
 use native.Mathlib.Omega.{arith}
 use lib.ListN.{length, drop, length-append, length-drop}
 use lib.Seq.{length-take-le}
-use Rattle.base.proofs.First.{either}
+use Rattle.base.proofs.Truth.{either}
 use Rattle.wire.proofs.Word.{length-bytes32}
 use Rattle.store.specs.Entry.{offset, sheetLength}
 use Rattle.store.specs.Granted.{granted, grantedBelow}
