@@ -3,11 +3,11 @@
 use mathlib.Core.Path.{_≡_, refl, sym, ap, _∙_}
 use mathlib.Core.Bool.{Bool, true, false, not, cond, _&&_, _||_, or-false, and-true, true≢false}
 use mathlib.Core.Logic.{⊎-elim}
-use Prim.Native.Nat.{ℕ, zero, suc, _≤_, _<_}
+use Prim.Native.Nat.{ℕ, suc, _≤_, _<_}
 use native.Mathlib.Omega.{arith}
 use lib.Dec.{eqb}
-use borrow.Author.Tests.{eqb-true, ltb-true, ltb-false, lt-ltb, le-ltb, eq-eqb, ne-eqb, not-true}
-use Rattle.base.proofs.Truth.{either, both}
+use borrow.Author.Tests.{eqb-true, lt-ltb, le-ltb, eq-eqb, ne-eqb, not-true}
+use Rattle.base.proofs.Truth.{either, both, neither}
 use Rattle.rules.specs.Kinds.{SJ, LJ, SL, LL, SA, LA, SR, LR, quiet}
 use Rattle.rules.specs.Ranges.{sheets}
 use Rattle.group.specs.Accepted.{Accepted}
@@ -20,6 +20,7 @@ use Rattle.group.specs.Marks.{mark, modelMarked, sheetMarked, modelIn, s
 use Rattle.group.specs.Read.{granted}
 use Rattle.group.specs.Request.{markedGroup, requestAnswer}
 use Rattle.group.specs.declared.Group.{Group}
+use Rattle.group.proofs.Cases.{each-kind}
 use Rattle.group.proofs.Clear.{fresh-mark, closed-mark}
 use Rattle.group.proofs.Close.{closed-modelIn, closed-sheetIn, closed-sheetInByLA, closed-granted, close-cases}
 use Rattle.group.proofs.Request.{mark-marked, request-cases}
@@ -40,47 +41,28 @@ kind-quiet : (k : ℕ) → markedKind k (λ j. false) ≡ quiet
 kind-quiet k = refl
 
 -- one kind is marked
-model-kind : (kind : ℕ) → kind < SA → markedKind SJ (λ j. eqb kind j) ≡ kind
-model-kind zero h = refl
-model-kind (suc zero) h = refl
-model-kind (suc (suc zero)) h = refl
-model-kind (suc (suc (suc zero))) h = refl
-model-kind (suc (suc (suc (suc k)))) h = absurd (omega arith)
-
-sheet-kind : (kind : ℕ) → SA ≤ kind → kind ≤ LR → markedKind SA (λ j. eqb kind j) ≡ kind
-sheet-kind zero l h = absurd (omega arith)
-sheet-kind (suc zero) l h = absurd (omega arith)
-sheet-kind (suc (suc zero)) l h = absurd (omega arith)
-sheet-kind (suc (suc (suc zero))) l h = absurd (omega arith)
-sheet-kind (suc (suc (suc (suc zero)))) l h = refl
-sheet-kind (suc (suc (suc (suc (suc zero))))) l h = refl
-sheet-kind (suc (suc (suc (suc (suc (suc zero)))))) l h = refl
-sheet-kind (suc (suc (suc (suc (suc (suc (suc zero))))))) l h = refl
-sheet-kind (suc (suc (suc (suc (suc (suc (suc (suc k)))))))) l h = absurd (omega arith)
+one-kind : (kind : ℕ) → kind ≤ LR → markedKind (cond (ofModel kind) SJ SA) (λ j. eqb kind j) ≡ kind
+one-kind = each-kind _ refl refl refl refl refl refl refl refl
 
 -- ---- an accepted request
 
 none-of : (a b c d : Bool) → a || b || c || d ≡ false → (a ≡ false) × (b ≡ false) × (c ≡ false) × (d ≡ false)
-none-of false false false false h = (refl, refl, refl, refl)
-none-of false false false true h = absurd (true≢false h)
-none-of false false true d h = absurd (true≢false h)
-none-of false true c d h = absurd (true≢false h)
-none-of true b c d h = absurd (true≢false h)
+none-of a b c d h =
+    let p = neither (a || b || c) d h in
+    let q = neither (a || b) c (p .0) in
+    let r = neither a b (q .0) in
+    (r .0, r .1, q .1, p .1)
 
 unmarked : (g : Group) (i k : ℕ) → k ≤ LR → cond (ofModel k) (modelMarked g i) (sheetMarked g i) ≡ false → mark g k i ≡ false
-unmarked g i zero l h = none-of (mark g SJ i) (mark g LJ i) (mark g SL i) (mark g LL i) h .0
-unmarked g i (suc zero) l h = none-of (mark g SJ i) (mark g LJ i) (mark g SL i) (mark g LL i) h .1
-unmarked g i (suc (suc zero)) l h = none-of (mark g SJ i) (mark g LJ i) (mark g SL i) (mark g LL i) h .2
-unmarked g i (suc (suc (suc zero))) l h = none-of (mark g SJ i) (mark g LJ i) (mark g SL i) (mark g LL i) h .3
-unmarked g i (suc (suc (suc (suc zero)))) l h = none-of (mark g SA i) (mark g LA i) (mark g SR i) (mark g LR i) h .0
-unmarked g i (suc (suc (suc (suc (suc zero))))) l h = none-of (mark g SA i) (mark g LA i) (mark g SR i) (mark g LR i) h .1
-unmarked g i (suc (suc (suc (suc (suc (suc zero)))))) l h = none-of (mark g SA i) (mark g LA i) (mark g SR i) (mark g LR i) h .2
-unmarked g i (suc (suc (suc (suc (suc (suc (suc zero))))))) l h = none-of (mark g SA i) (mark g LA i) (mark g SR i) (mark g LR i) h .3
-unmarked g i (suc (suc (suc (suc (suc (suc (suc (suc k)))))))) l h = absurd (omega arith)
+unmarked g i =
+    let joined = none-of (mark g SJ i) (mark g LJ i) (mark g SL i) (mark g LL i) in
+    let added = none-of (mark g SA i) (mark g LA i) (mark g SR i) (mark g LR i) in
+    each-kind (λ k. cond (ofModel k) (modelMarked g i) (sheetMarked g i) ≡ false → mark g k i ≡ false)
+    (λ h. joined h .0) (λ h. joined h .1) (λ h. joined h .2) (λ h. joined h .3)
+    (λ h. added h .0) (λ h. added h .1) (λ h. added h .2) (λ h. added h .3)
 
 not-both : (a b : Bool) → a && b ≡ false → a ≡ true → b ≡ true → ⊥
-not-both true true h t u = true≢false h
-not-both true false h t u = true≢false (sym u)
+not-both true b h t u = true≢false (sym u ∙ h)
 not-both false b h t u = true≢false (sym t)
 
 -- a model's kind, a sheet's kind
@@ -111,7 +93,7 @@ module _ (g : Group) (kind n : ℕ) (z : Fits g) (a : Accepted g kind n) where
   pub model-event-own : ofModel kind ≡ true → modelEvent (markedGroup g kind n) n ≡ kind
   unfolding modelEvent
   model-event-own t =
-      kind-ext SJ _ (λ j. eqb kind j) (λ j l h. own-mark j (omega arith) (t ∙ sym (of-model j (omega arith)))) ∙ model-kind kind (ltb-true kind SA t)
+      kind-ext SJ _ (λ j. eqb kind j) (λ j l h. own-mark j (omega arith) (t ∙ sym (of-model j (omega arith)))) ∙ simp t at (one-kind kind (a .known))
 
   pub model-event-other : (m : ℕ) → (ofModel kind ≡ true → m ≡ n → ⊥) → modelEvent (markedGroup g kind n) m ≡ modelEvent g m
   unfolding modelEvent
@@ -120,7 +102,7 @@ module _ (g : Group) (kind n : ℕ) (z : Fits g) (a : Accepted g kind n) where
   pub sheet-event-own : ofModel kind ≡ false → sheetEvent (markedGroup g kind n) n ≡ kind
   unfolding sheetEvent
   sheet-event-own f =
-      kind-ext SA _ (λ j. eqb kind j) (λ j l h. own-mark j (omega arith) (f ∙ sym (of-sheet j (omega arith)))) ∙ sheet-kind kind (ltb-false kind SA f) (a .known)
+      kind-ext SA _ (λ j. eqb kind j) (λ j l h. own-mark j (omega arith) (f ∙ sym (of-sheet j (omega arith)))) ∙ simp f at (one-kind kind (a .known))
 
   pub sheet-event-other : (s : ℕ) → (ofModel kind ≡ false → s ≡ n → ⊥) → sheetEvent (markedGroup g kind n) s ≡ sheetEvent g s
   unfolding sheetEvent
