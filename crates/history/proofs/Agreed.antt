@@ -43,7 +43,7 @@ use Rattle.group.proofs.Quiet.{fresh-unmarked}
 use Rattle.group.proofs.Request.{request-code, request-refused, request-accepted}
 use Rattle.history.specs.Run.{Call, request, close, Reached, step, run, fresh, reached}
 use Rattle.history.specs.Strips.{stripOf}
-use Rattle.history.proofs.Keep.{strip-later}
+use Rattle.history.proofs.Strips.{strip-later}
 use Rattle.history.proofs.Sides.{stays, inOn, in-closed}
 use Rattle.history.proofs.Carried.{Carried, carried-marks, carried-before, fresh-carried}
 use Rattle.history.proofs.Closes.{close-carried}

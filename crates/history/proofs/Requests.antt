@@ -26,7 +26,7 @@ use Rattle.group.specs.declared.Group.{Group}
 use Rattle.group.proofs.Carrier.{sheet-number}
 use Rattle.group.proofs.Request.{mark-marked}
 use Rattle.history.specs.Strips.{carriedBy, stripOf}
-use Rattle.history.proofs.Keep.{strip-later, strip-other, strip-own}
+use Rattle.history.proofs.Strips.{strip-later, strip-other, strip-own}
 use Rattle.history.proofs.Sides.{by-kind, ofSide, even, turn-is, turn-side, same-turn, inOn, markedOn, carriers-range, carried-is, carried-parts, Marks, known, known-side, marked-known}
 use Rattle.history.proofs.Carried.{Open, idle, event, Carried, carried-good, not-quiet}
 
