@@ -7,7 +7,7 @@ use native.Mathlib.Omega.{arith}
 use lib.Dec.{eqb}
 use borrow.Author.Tests.{not-true, eqb-true, eqb-false, eq-eqb, ne-eqb}
 use Rattle.base.proofs.Truth.{either, both}
-use Rattle.rules.specs.Kinds.{SJ, LJ, SL, LL, SA, LA, SR, LR}
+use Rattle.rules.specs.Kinds.{SJ, LJ, SL, LL, SA, LA, SR, LR, quiet}
 use Rattle.rules.specs.Ranges.{models, sheets}
 use Rattle.event.specs.Word.{kindOf, numberOf}
 use Rattle.strip.specs.declared.Side.{Side}
@@ -132,3 +132,18 @@ in-closed g z Model n o l h =
 in-closed g z Sheet n o l h =
     closed-sheetIn g z n l
     ∙ simp (h SA (omega arith) refl, h LA (omega arith) refl, h SR (omega arith) refl, h LR (omega arith) refl) (stays (sheetIn g n) (leaves Sheet o) (enters Sheet o))
+
+-- a carrier without an event stays as it was
+pub closed-idle : (g : Group) → Fits g → (side : Side) (n : ℕ) → n < range side → Marks g side n quiet → inOn side (closedGroup g) n ≡ inOn side g n
+closed-idle g z Model n l h = in-closed g z Model n quiet l h
+closed-idle g z Sheet n l h = in-closed g z Sheet n quiet l h
+
+-- one with an event is in exactly when it entered
+comes-last : (e b : Bool) → e || (not (not e) && b) ≡ e
+comes-last true b = refl
+comes-last false b = refl
+
+pub closed-event : (g : Group) → Fits g → (side : Side) (n k : ℕ) → n < range side → k ≤ LR → ofSide side k ≡ true → Marks g side n k
+    → inOn side (closedGroup g) n ≡ entering k
+closed-event g z side n k l known own h =
+    in-closed g z side n k l h ∙ simp (comes side k known, goes side k known, own) (comes-last (entering k) (inOn side g n))
