@@ -13,7 +13,6 @@ use Rattle.base.proofs.Truth.{either, neither}
 use Rattle.rules.specs.Kinds.{SA, LA, SR, LR, isAdd, isRemove}
 use Rattle.rules.specs.Ranges.{sheets, ticks}
 use Rattle.rules.specs.Refusals.{noTickLeft}
-use Rattle.bits.specs.Bit.{bit}
 use Rattle.group.specs.Carrier.{ofModel}
 use Rattle.group.specs.Fits.{Fits}
 use Rattle.group.specs.Read.{granted, readAnswer}
@@ -25,7 +24,6 @@ use Rattle.group.proofs.Fits.{request-fits, close-fits}
 use Rattle.group.proofs.Request.{request-refused}
 use Rattle.group.proofs.View.{other-model, view-refusal, view-request, view-close, view-close-code, view-read}
 use Rattle.store.specs.Agree.{Agree}
-use Rattle.store.specs.Granted.{granted as grantedBy}
 use Rattle.store.proofs.Agree.{same-answer, same-buffer}
 use Rattle.demands.specs.Calls.{Call, request, close, read, count, deliver, coded, shown, delivered, answerTo, after}
 use Rattle.demands.specs.Alike.{forSheet, shared}
@@ -87,11 +85,11 @@ module _ (m : ℕ) where
 
   module _ (g h : Group) (alike : view m g ≡ view m h) where
     -- the model's bits are seen, so stores that agree on its grants in one group agree on those of the other
-    bit-seen : (x : Group) (s : ℕ) → s < sheets → getD (view m x .grants) s false ≡ grantedBy (x .grants) m s
-    unfolding view granted grantedBy bit
+    bit-seen : (x : Group) (s : ℕ) → s < sheets → getD (view m x .grants) s false ≡ granted x m s
+    unfolding view
     bit-seen x s l = getD-table sheets (λ s. granted x m s) s false l
 
-    same-bits : (s : ℕ) → s < sheets → grantedBy (g .grants) m s ≡ grantedBy (h .grants) m s
+    same-bits : (s : ℕ) → s < sheets → granted g m s ≡ granted h m s
     same-bits s l = sym (bit-seen g s l) ∙ ap (λ (v : View). getD (v .grants) s false) alike ∙ bit-seen h s l
 
     across : (b b′ : List ℕ) → Agree (g .grants) (g .grants) m b b′ → Agree (g .grants) (h .grants) m b b′

@@ -13,7 +13,7 @@ use Rattle.base.proofs.Table.{getD-table}
 use Rattle.rules.specs.Kinds.{SJ, LJ, SL, LL, SA, LA, SR, LR}
 use Rattle.rules.specs.Ranges.{sheets, ticks}
 use Rattle.rules.specs.Refusals.{noTickLeft}
-use Rattle.bits.specs.Bit.{width, bit}
+use Rattle.bits.specs.Bit.{width, bit, bitIn}
 use Rattle.bits.specs.Set.{has, Words}
 use Rattle.bits.proofs.Bit.{bit-zero, bit-or, bit-and-not, bit-after}
 use Rattle.bits.proofs.Set.{has-either, has-after, words-either}
@@ -82,7 +82,7 @@ module _ (g : Group) (z : Fits g) where
       ≡ not (mark g SR s) && (granted g m s && not (mark g SL m))
       || (mark g SA s || mark g LA s) && modelIn (closedGroup g) m
       || sheetInByLA (closedGroup g) s && mark g LJ m
-  unfolding closedGroup closedWords granted
+  unfolding closedGroup closedWords bitIn
   closed-granted m s h =
       ap (λ (w : ℕ). bit w m) (getD-table sheets _ s 0 h)
       ∙ bit-closedWord (getD (g .grants) s 0) (has (g .sr) s) (has (adds g) s) (has (closedLiberal g) s) (closedMembers g) (g .sl) (g .lj) m (z .grants .words s) (z .sl)

@@ -5,7 +5,7 @@ use Prim.Native.Nat.{ℕ, _≤_, _<_}
 use borrow.Author.Tests.{le-leb, lt-leb}
 use Rattle.rules.specs.Ranges.{sheets, groups}
 use Rattle.rules.specs.Refusals.{badGroup}
-use Rattle.bits.specs.Bit.{bit}
+use Rattle.bits.specs.Bit.{bit, bitIn}
 use Rattle.bits.proofs.Bit.{bit-zero}
 use Rattle.bits.proofs.Set.{getD-none, has-none}
 use Rattle.group.specs.Carrier.{sheetWords}
@@ -35,7 +35,7 @@ module _ (n : ℕ) where
   fresh-sheetInByLA s = has-none sheetWords s
 
   pub fresh-granted : (m s : ℕ) → granted (freshGroup n) m s ≡ false
-  unfolding freshGroup granted
+  unfolding freshGroup bitIn
   fresh-granted m s = ap (λ (w : ℕ). bit w m) (getD-none sheets s) ∙ bit-zero m
 
   -- ---- the answer

@@ -17,6 +17,7 @@ use Rattle.rules.specs.Kinds.{SA, LA, SR, LR}
 use Rattle.rules.specs.Ranges.{sheets, ticks}
 use Rattle.rules.specs.Refusals.{noTickLeft}
 use Rattle.bits.specs.Set.{none}
+use Rattle.bits.specs.Bit.{bitIn}
 use Rattle.bits.proofs.Bit.{bit-zero}
 use Rattle.group.specs.Carrier.{ofModel, sheetWords}
 use Rattle.group.specs.Close.{closedAdded, closedLiberal, closedGroup, closeAnswer}
@@ -33,7 +34,7 @@ use Rattle.group.proofs.Request.{bit-marked, request-code, request-case
 
 module _ (m : ℕ) (g : Group) (kind n : ℕ) where
   pub view-marked : view m (markedGroup g kind n) ≡ markedView m (view m g) kind n
-  unfolding view markedView markedGroup granted
+  unfolding view markedView markedGroup bitIn
   view-marked = simp bit-marked
 
 -- a model's kind is no sheet's kind

@@ -13,7 +13,7 @@ use borrow.Author.Tests.{eqb-true, eqb-false, leb-false}
 use Rattle.base.proofs.Truth.{either}
 use Rattle.rules.specs.Kinds.{LJ, SL, SA, LA, SR, LR, isAdd, isRemove}
 use Rattle.rules.specs.Ranges.{models, sheets, groups, ticks}
-use Rattle.bits.specs.Bit.{bit}
+use Rattle.bits.specs.Bit.{bit, bitIn}
 use Rattle.bits.proofs.Bit.{bit-zero}
 use Rattle.bits.proofs.Set.{has-none}
 use Rattle.event.specs.Word.{wordOf, tickOf, kindOf, numberOf}
@@ -77,7 +77,7 @@ fresh-out k Model n = bit-zero n
 fresh-out k Sheet n = has-none sheetWords n
 
 fresh-agreed : (k : ℕ) → k < 2 ^ 32 → Agreed (freshGroup k) 0 []
-unfolding freshGroup granted
+unfolding freshGroup bitIn
 fresh-agreed k h = record {
   fits = fresh-fits k h;
   tick = refl;
@@ -113,7 +113,7 @@ module _ (g : Group) (t : ℕ) (ws : List ℕ) (a : Agreed g t ws) (kind n : ℕ
   unseen side i = strip-later side i ws t new (omega (arith, new-tick))
 
   marked-agreed : Agreed (markedGroup g kind n) t (ws ++ (new ∷ []))
-  unfolding markedGroup granted
+  unfolding markedGroup bitIn
   marked-agreed = record {
     fits = marked-fits g kind n (a .fits) (r .ranged);
     tick = a .tick;
