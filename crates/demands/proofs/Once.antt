@@ -5,8 +5,9 @@ use mathlib.Core.List.{List}
 use Prim.Native.Nat.{ℕ}
 use lib.ListN.{length}
 use denote.Ref.{RefT}
+use Rattle.base.specs.Part.{wordAt}
 use Rattle.book.specs.Read.{bookRead, listRead}
-use Rattle.book.specs.Tick.{tickPart, tickStart, wordAt}
+use Rattle.book.specs.Tick.{tickPart, tickStart}
 use Rattle.book.specs.Write.{bookWritten, bufferWritten}
 use Rattle.book.specs.declared.BookRead.{BookRead}
 use Rattle.book.specs.declared.BookWritten.{BookWritten}
