@@ -16,10 +16,12 @@ use Rattle.strip.specs.Good.{enters, leaves, range, turn}
 use Rattle.group.specs.Carrier.{ofModel, carriers, entering}
 use Rattle.group.specs.Close.{closedGroup}
 use Rattle.group.specs.Fits.{Fits}
+use Rattle.group.specs.Fresh.{freshGroup}
 use Rattle.group.specs.Marks.{mark, modelMarked, sheetMarked, modelIn, sheetIn}
 use Rattle.group.specs.declared.Group.{Group}
 use Rattle.group.proofs.Close.{closed-modelIn, closed-sheetIn}
 use Rattle.group.proofs.Cases.{each-kind}
+use Rattle.group.proofs.Fresh.{fresh-modelIn, fresh-sheetIn}
 use Rattle.history.specs.Strips.{carriedBy}
 
 -- ---- kinds
@@ -84,6 +86,10 @@ inOn side g n = bySide side (modelIn g n) (sheetIn g n)
 
 abbrev pub markedOn : Side → Group → ℕ → Bool
 markedOn side g n = bySide side (modelMarked g n) (sheetMarked g n)
+
+pub in-fresh : (number : ℕ) (side : Side) (n : ℕ) → inOn side (freshGroup number) n ≡ false
+in-fresh number Model n = fresh-modelIn number n
+in-fresh number Sheet n = fresh-sheetIn number n
 
 pub carriers-range : (side : Side) (kind : ℕ) → ofSide side kind ≡ true → carriers kind ≡ range side
 carriers-range Model kind e = by-kind Model kind models sheets e
