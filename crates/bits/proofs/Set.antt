@@ -88,10 +88,6 @@ module _ (n : ℕ) (xs ys : List ℕ) where
   unfolding has either
   has-either i h = ap (λ (w : ℕ). bit w (i % width)) (getD-table n (λ k. bitOr (getD xs k 0) (getD ys k 0)) (i / width) 0 h) ∙ bit-or _ _ (i % width)
 
-  pub length-either : length (either n xs ys) ≡ n
-  unfolding either
-  length-either = length-table n _
-
   pub words-either : Words xs → Words ys → Words (either n xs ys)
   unfolding either
   words-either hx hy = words-table n _ (λ k. or-lt width _ _ (hx k) (hy k))

@@ -2,17 +2,16 @@
 use mathlib.Core.Path.{_≡_, refl, ap, _∙_}
 use mathlib.Core.Bool.{Bool, true, false, not, cond, _&&_, _||_}
 use mathlib.Core.Logic.{⊎-elim}
-use Prim.Native.Nat.{ℕ, _+_, _/_, _^_, _≤_, _<_}
+use Prim.Native.Nat.{ℕ, _+_, _/_, _^_, _<_}
 use native.Mathlib.Omega.{arith}
 use lib.Dec.{leb}
 use lib.Bits.{bitOr, or-lt}
 use lib.ListN.{getD}
-use borrow.Author.Tests.{leb-false, le-leb, lt-leb}
+use borrow.Author.Tests.{leb-false, lt-leb}
 use Rattle.base.proofs.Truth.{either as truth}
 use Rattle.base.proofs.Table.{getD-table}
 use Rattle.rules.specs.Kinds.{SJ, LJ, SL, LL, SA, LA, SR, LR}
 use Rattle.rules.specs.Ranges.{sheets, ticks}
-use Rattle.rules.specs.Refusals.{noTickLeft}
 use Rattle.bits.specs.Bit.{width, bit, bitIn}
 use Rattle.bits.specs.Set.{has, Words}
 use Rattle.bits.proofs.Bit.{bit-zero, bit-or, bit-and-not, bit-after}
@@ -110,7 +109,3 @@ module _ (g : Group) where
   pub close-accepted : g .closed < ticks → closeAnswer g ≡ record { code = 0; group = closedGroup g }
   unfolding closeAnswer
   close-accepted h = simp (lt-leb _ _ h)
-
-  pub close-refused : ticks ≤ g .closed → closeAnswer g ≡ record { code = noTickLeft; group = g }
-  unfolding closeAnswer
-  close-refused h = simp (le-leb _ _ h)

@@ -1,13 +1,12 @@
 -- Laws that the proofs of other crates cite.
 pub mod Accepted
 pub mod Carrier
+pub mod Cases
 pub mod Clear
 pub mod Close
-pub mod Event
 pub mod Fits
 pub mod Fresh
 pub mod Held
-pub mod Cases
 pub mod Lent
 pub mod Quiet
 pub mod Request

@@ -10,8 +10,6 @@ use lib.ListN.{getD}
 use borrow.Author.Tests.{ltb-true, ne-eqb, leb-false}
 use Rattle.base.specs.Table.{table}
 use Rattle.base.proofs.Truth.{either as truth}
-use Rattle.base.specs.HowMany.{howMany}
-use Rattle.base.proofs.HowMany.{howMany-ext}
 use Rattle.base.proofs.Table.{getD-table, table-ext}
 use Rattle.rules.specs.Kinds.{SA, LA, SR, LR}
 use Rattle.rules.specs.Ranges.{sheets, ticks}
@@ -21,7 +19,6 @@ use Rattle.bits.specs.Bit.{bitIn}
 use Rattle.bits.proofs.Bit.{bit-zero}
 use Rattle.group.specs.Carrier.{ofModel, sheetWords}
 use Rattle.group.specs.Close.{closedAdded, closedLiberal, closedGroup, closeAnswer}
-use Rattle.group.specs.Count.{sheetsGranted}
 use Rattle.group.specs.Fits.{Fits}
 use Rattle.group.specs.Read.{granted, readAnswer}
 use Rattle.group.specs.Request.{requestRefusal, markedGroup, requestAnswer}
@@ -132,7 +129,3 @@ module _ (m : ℕ) (g : Group) where
       (λ (t : leb sheets s ≡ true). simp t)
       (λ (f : leb sheets s ≡ false). simp (f, granted-seen s (leb-false _ _ f)))
       (truth (leb sheets s))
-
-  pub view-sheets : sheetsGranted g m ≡ howMany (λ s. getD (view m g .grants) s false) sheets
-  unfolding sheetsGranted
-  view-sheets = howMany-ext _ _ sheets (λ s h. sym (granted-seen s h))
