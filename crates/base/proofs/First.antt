@@ -1,22 +1,25 @@
 -- What `first` finds: no earlier place passes the test, and its own does. Assumes nothing.
-use mathlib.Core.Path.{_≡_, refl, sym, ap, _∙_}
+use mathlib.Core.Path.{_≡_, refl, sym, ap, ap₂, _∙_}
 use mathlib.Core.Bool.{Bool, true, false, cond}
-use mathlib.Core.Logic.{_⊎_, inl, inr, ⊎-elim}
+use mathlib.Core.Logic.{⊎-elim}
 use Prim.Native.Nat.{ℕ, zero, suc, _≤_, _<_}
 use native.Mathlib.Omega.{arith}
 use native.Mathlib.Nat.{eq-or-lt-of-le}
 use lib.Dec.{ltb}
 use borrow.Author.Tests.{ltb-true, ltb-false, lt-ltb, le-ltb}
 use Rattle.base.specs.First.{first}
-
--- a truth value is one of two, and says which
-pub either : (b : Bool) → (b ≡ true) ⊎ (b ≡ false)
-either true = inl refl
-either false = inr refl
+use Rattle.base.proofs.Truth.{either}
 
 -- no k below i passes
 abbrev pub None : (ℕ → Bool) → ℕ → Type 0
 None p i = (k : ℕ) → k < i → p k ≡ false
+
+-- two tests that agree below n find the same
+pub first-ext : (p q : ℕ → Bool) (n : ℕ) → ((k : ℕ) → k < n → p k ≡ q k) → first p n ≡ first q n
+unfolding first
+first-ext p q zero e = refl
+first-ext p q (suc n) e =
+    ap₂ (λ (f : ℕ) (b : Bool). cond (ltb f n) f (cond b n (suc n))) (first-ext p q n (λ k h. e k (omega arith))) (e n (omega arith))
 
 module _ (p : ℕ → Bool) where
   -- one step of the search: found before, found now, or not yet

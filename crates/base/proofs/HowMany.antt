@@ -1,7 +1,7 @@
 -- Laws of `howMany`. Assumes nothing.
 use mathlib.Core.Path.{_≡_, refl, ap₂}
-use mathlib.Core.Bool.{Bool, true, false, cond}
-use Prim.Native.Nat.{ℕ, zero, suc, _+_, _≤_, _<_}
+use mathlib.Core.Bool.{Bool, true, cond}
+use Prim.Native.Nat.{ℕ, zero, suc, _+_, _<_}
 use native.Mathlib.Omega.{arith}
 use Rattle.base.specs.HowMany.{howMany}
 
@@ -18,18 +18,3 @@ howMany-first p zero = omega arith
 howMany-first p (suc n) =
     let e : howMany p (suc n) ≡ cond (p 0) 1 0 + howMany (λ k. p (suc k)) n = howMany-first p n in
     omega arith
-
-one-le : (b : Bool) → cond b 1 0 ≤ 1
-one-le true = omega arith
-one-le false = omega arith
-
-pub howMany-le : (p : ℕ → Bool) (n : ℕ) → howMany p n ≤ n
-unfolding howMany
-howMany-le p zero = omega arith
-howMany-le p (suc n) = omega (arith, howMany-le p n, one-le (p n))
-
--- no number passes
-pub howMany-none : (p : ℕ → Bool) (n : ℕ) → ((k : ℕ) → k < n → p k ≡ false) → howMany p n ≡ 0
-unfolding howMany
-howMany-none p zero e = refl
-howMany-none p (suc n) e = ap₂ (λ (x : ℕ) (b : Bool). x + cond b 1 0) (howMany-none p n (λ k h. e k (omega arith))) (e n (omega arith))

@@ -2,5 +2,7 @@
 pub mod First
 pub mod Front
 pub mod HowMany
+pub mod Part
 pub mod Rules
 pub mod Table
+pub mod Truth

@@ -3,7 +3,7 @@ use mathlib.Core.Path.{_≡_, refl, ap, ap₂}
 use mathlib.Core.List.{List, _∷_}
 use Prim.Native.Nat.{ℕ, zero, suc, _<_, zero-le, suc-le-suc}
 use native.Mathlib.Nat.{not-suc-le-zero, le-of-suc-le-suc}
-use lib.ListN.{length, getD, replicate}
+use lib.ListN.{length, getD}
 use Rattle.base.specs.Table.{table}
 
 module _ {A : Type 0} where
@@ -23,9 +23,3 @@ module _ {A : Type 0} where
   unfolding table
   table-ext zero f h e = refl
   table-ext (suc n) f h e = ap₂ (λ (x : A) (l : List A). x ∷ l) (e 0 (suc-le-suc zero-le)) (table-ext n (λ k. f (suc k)) (λ k. h (suc k)) (λ i hi. e (suc i) (suc-le-suc hi)))
-
-  -- a rule of one value
-  pub table-same : (n : ℕ) (a : A) → table n (λ k. a) ≡ replicate n a
-  unfolding table
-  table-same zero a = refl
-  table-same (suc n) a = ap (λ (l : List A). a ∷ l) (table-same n a)

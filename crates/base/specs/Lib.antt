@@ -1,3 +1,4 @@
 pub mod First
 pub mod HowMany
+pub mod Part
 pub mod Table

@@ -12,7 +12,7 @@ use lib.ListN.{length, getD, set, length-set, List·getD-eq-default}
 use lib.Seq.{getD-set-same, getD-set-other}
 use borrow.Author.Tests.{eq-eqb, ne-eqb, eqb-true, eqb-false, ltb-true, ltb-false}
 use Rattle.base.specs.Table.{table}
-use Rattle.base.proofs.First.{either as truth}
+use Rattle.base.proofs.Truth.{either as truth}
 use Rattle.base.proofs.Table.{length-table, getD-table}
 use Rattle.bits.specs.Bit.{width, bit, withBit, afterWord}
 use Rattle.bits.specs.Set.{none, has, with, either, after, Words}
@@ -87,10 +87,6 @@ module _ (n : ℕ) (xs ys : List ℕ) where
   pub has-either : (i : ℕ) → i / width < n → has (either n xs ys) i ≡ has xs i || has ys i
   unfolding has either
   has-either i h = ap (λ (w : ℕ). bit w (i % width)) (getD-table n (λ k. bitOr (getD xs k 0) (getD ys k 0)) (i / width) 0 h) ∙ bit-or _ _ (i % width)
-
-  pub length-either : length (either n xs ys) ≡ n
-  unfolding either
-  length-either = length-table n _
 
   pub words-either : Words xs → Words ys → Words (either n xs ys)
   unfolding either

@@ -1,8 +1,10 @@
 -- The bit of a word at a place, and a word after a tick.
 use mathlib.Core.Bool.{Bool}
+use mathlib.Core.List.{List}
 use Prim.Native.Nat.{ℕ, _-_, _/_, _%_, _^_}
 use lib.Dec.{eqb}
 use lib.Bits.{bitAnd, bitOr}
+use lib.ListN.{getD}
 
 -- how many bits a word has
 abbrev pub width : ℕ
@@ -11,6 +13,10 @@ width = 64
 -- bit i of w is set
 unfoldable pub bit : ℕ → ℕ → Bool
 bit w i = eqb (w / 2 ^ i % 2) 1
+
+-- bit i of word k of a list
+unfoldable pub bitIn : List ℕ → ℕ → ℕ → Bool
+bitIn ws k i = bit (getD ws k 0) i
 
 -- w with bit i set
 abbrev pub withBit : ℕ → ℕ → ℕ

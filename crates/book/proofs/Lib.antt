@@ -4,7 +4,6 @@ pub mod Amid
 pub mod Carriers
 pub mod Format
 pub mod Jump
-pub mod Keep
 pub mod Led
 pub mod Part
 pub mod Pass

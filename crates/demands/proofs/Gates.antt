@@ -1,5 +1,5 @@
 -- Every group that calls reach is gated by the formula over the events that it accepted, and so is a station's mask. Assumes nothing.
-use mathlib.Core.Path.{_≡_, refl, sym, ap, _∙_, subst}
+use mathlib.Core.Path.{_≡_, sym, ap, _∙_, subst}
 use mathlib.Core.Bool.{true}
 use mathlib.Core.Logic.{_↔_}
 use mathlib.Core.List.{List, [], _++_}
@@ -14,7 +14,6 @@ use Rattle.group.specs.declared.Group.{Group}
 use Rattle.group.proofs.Request.{request-code}
 use Rattle.station.specs.Mask.{maskOf, listRefusal, answerWith, maskAnswer}
 use Rattle.station.proofs.Positions.{mask-bit, grants-granted}
-use Rattle.store.specs.Granted.{granted as grantedBy}
 use Rattle.history.specs.Run.{Reached, run, reached}
 use Rattle.history.specs.Run as history
 use Rattle.history.proofs.Answers.{read-granted}
@@ -31,11 +30,6 @@ use Rattle.demands.specs.Gated.{Granting, Gated}
 use Rattle.demands.proofs.Moving.{run-moving}
 use Rattle.demands.proofs.Parts.{delivered-holds}
 
--- the grants of a group as the delivery reads them
-reads-grants : (g : Group) (m s : ℕ) → grantedBy (g .grants) m s ≡ granted g m s
-unfolding granted grantedBy bit
-reads-grants g m s = refl
-
 pub reached-gated : (number : ℕ) (calls : List history.Call) → Gated (reached number calls .group) (reached number calls .events)
 reached-gated number calls =
     let says = gate.gate-is-formula number calls in
@@ -51,8 +45,7 @@ reached-gated number calls =
           let c = request-code (reached number calls .group) kind n in
           (λ e. w .0 (sym c ∙ e), λ x. c ∙ w .1 x);
       delivery = λ m l store out n e.
-          let g = reached number calls .group in
-          delivered-holds (g .grants) m _ (λ s b. (λ t. says m s l b .0 (sym (reads-grants g m s) ∙ t), λ x. reads-grants g m s ∙ says m s l b .1 x)) store out n e;
+          delivered-holds (reached number calls .group .grants) m _ (λ s b. says m s l b) store out n e;
     }
 
 -- a run on a group that calls had reached before it

@@ -9,7 +9,8 @@ use lib.Dec.{ltb}
 use lib.ListN.{length, getD}
 use borrow.Author.Tests.{ltb-true, ltb-false, lt-ltb, le-ltb}
 use Rattle.base.specs.First.{first}
-use Rattle.base.proofs.First.{either, step-found, step-now, step-on}
+use Rattle.base.proofs.First.{step-found, step-now, step-on}
+use Rattle.base.proofs.Truth.{either}
 use Rattle.demands.specs.Lines.{Refusal, none, Line, unmet, firstMet, eachBelow, Met}
 
 -- ---- in words

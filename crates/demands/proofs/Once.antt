@@ -5,8 +5,9 @@ use mathlib.Core.List.{List}
 use Prim.Native.Nat.{ℕ}
 use lib.ListN.{length}
 use denote.Ref.{RefT}
+use Rattle.base.specs.Part.{wordAt}
 use Rattle.book.specs.Read.{bookRead, listRead}
-use Rattle.book.specs.Tick.{tickPart, tickStart, wordAt}
+use Rattle.book.specs.Tick.{tickPart, tickStart}
 use Rattle.book.specs.Write.{bookWritten, bufferWritten}
 use Rattle.book.specs.declared.BookRead.{BookRead}
 use Rattle.book.specs.declared.BookWritten.{BookWritten}
@@ -32,6 +33,8 @@ use Rattle.store.specs.declared.Delivery.{Delivery}
 use Rattle.store.proofs.Once.{Promised}
 use Rattle.strip.specs.declared.Side.{Side}
 use Rattle.strip.specs.Good.{firstBad}
+use Rattle.text.specs.Text.{added, addedEnd, AddsDecimal}
+use Rattle.text.proofs.Once.{one-decimal}
 
 -- at most one thing is as promised
 abbrev pub Once : (A : Type 0) → (A → Type 0) → Type 0
@@ -63,9 +66,13 @@ pub record PromisesDetermine : Type 0 where
   pub first-bad : (side : Side) (now : ℕ) (s : List ℕ) → Once ℕ (λ r. r ≡ firstBad side now s)
   pub gather : (words : List ℕ) (side : Side) (n : ℕ) (out : List ℕ) (at : ℕ)
       → Once (ℕ × List ℕ) (λ r. (r .0 ≡ gatheredEnd words side n out at) × (r .1 ≡ gathered words side n out at))
-  -- the numbers of a verdict, and the parts of an event word
+  -- the numbers of a verdict
   pub number : (v : Verdict) → Once ℕ (λ r. r ≡ numberOf v)
   pub value : (v : Verdict) → Once ℕ (λ r. r ≡ valueOf v)
+  -- text and decimal digits added to a buffer
+  pub text : (out : List ℕ) (at : ℕ) (bytes : List ℕ) → Once (ℕ × List ℕ) (λ r. (r .0 ≡ addedEnd out at bytes) × (r .1 ≡ added out at bytes))
+  pub decimal : (out : List ℕ) (at n : ℕ) → Once (ℕ × List ℕ) (λ r. AddsDecimal out at n (r .1) (r .0))
+  -- the parts of an event word
   pub word : (w : ℕ) → Once (ℕ × ℕ × ℕ) (λ r. (r .0 ≡ tickOf w) × (r .1 ≡ kindOf w) × (r .2 ≡ carrierOf w))
 
 -- what equals a definition
@@ -98,5 +105,7 @@ promises-determine = record {
   gather = λ words side n out at. two (gatheredEnd words side n out at) (gathered words side n out at);
   number = λ v. one (numberOf v);
   value = λ v. one (valueOf v);
+  text = λ out at bytes. two (addedEnd out at bytes) (added out at bytes);
+  decimal = λ out at n r t p q. let e = one-decimal out at n (r .1) (t .1) (r .0) (t .0) p q in λ i. (e .1 i, e .0 i);
   word = λ w r t p q i. ((p .0 ∙ sym (q .0)) i, (p .1 ∙ sym (q .1)) i, (p .2 ∙ sym (q .2)) i);
 }

@@ -1,21 +1,20 @@
 -- A delivery's reader finds the granted sheets, each with the store's bytes. Assumes nothing.
 use mathlib.Core.Path.{_≡_, refl, sym, ap, ap₂, _∙_, subst}
-use mathlib.Core.Bool.{Bool, true, false, not, cond}
+use mathlib.Core.Bool.{Bool, true, false, not, cond, true≢false}
 use mathlib.Core.List.{List, [], _∷_, _++_, append-assoc, map}
 use mathlib.Core.Logic.{_↔_}
 use Prim.Native.Nat.{ℕ, suc, _+_, _≤_, _<_}
 use native.Mathlib.Omega.{arith}
 use lib.Dec.{leb, ltb}
-use lib.ListN.{length, getD, take, drop, length-append, length-drop}
-use lib.Seq.{drop-at, take-at, length-take-le}
+use lib.ListN.{length, getD, drop, length-append}
+use lib.Seq.{drop-at}
 use borrow.Author.Tests.{leb-false, ltb-false, not-false}
 use Rattle.base.proofs.First.{first-le}
 use Rattle.rules.specs.Ranges.{models, sheets}
 use Rattle.rules.specs.Refusals.{badNumber, badStore, deliveryTooLong}
-use Rattle.wire.specs.Word.{le32, bytes32}
 use Rattle.wire.proofs.Word.{length-bytes32}
 use Rattle.store.specs.Answer.{answer, written, bufferAfter}
-use Rattle.store.specs.Delivery.{part, parts, sheetBytes, deliveryLength, deliveryOf, grantedSheets}
+use Rattle.store.specs.Delivery.{part, parts, deliveryLength, deliveryOf, grantedSheets}
 use Rattle.store.specs.Entry.{offset, sheetLength}
 use Rattle.store.specs.Fault.{faulty, firstFaulty}
 use Rattle.store.specs.Granted.{granted}
@@ -24,12 +23,8 @@ use Rattle.store.specs.Ready.{Ready}
 use Rattle.store.specs.Store.{goodStore}
 use Rattle.store.specs.declared.Delivery.{Delivery}
 use Rattle.store.specs.declared.Delivery.the-variants.{Delivered, Refused}
-use Rattle.store.proofs.Entry.{sound}
-use Rattle.store.proofs.Fault.{fault-free}
-use Rattle.store.proofs.Head.{read-first, read-second, drop-head}
-use Rattle.store.proofs.Listed.{granted-exactly, delivery-count, delivery-total, delivery-lists, delivered-exactly}
-use Rattle.store.proofs.Parts.{length-part}
-use Rattle.store.proofs.Store.{good}
+use Rattle.store.proofs.Listed.{behind, inside, delivery-count, delivery-total, delivery-lists, delivered-exactly}
+use Rattle.store.proofs.Parts.{part-number, part-bytes, part-next}
 use Rattle.demands.specs.Delivered.{partsOf, partsIn, stored, Holds}
 
 -- ---- what `Delivered` tells
@@ -42,15 +37,12 @@ record Passed (a b c d : Bool) (n k : ℕ) : Type 0 where
   room : d ≡ false
   total : n ≡ k
 
-apart : _≡_ {A = ℕ} 0 1 → ⊥
-apart e = omega arith
-
 passed : (a b c d : Bool) (x y n k : ℕ)
     → cond a (Refused badNumber 0) (cond b (Refused badStore 0) (cond c (Refused x y) (cond d (Refused deliveryTooLong 0) (Delivered n)))) ≡ Delivered k → Passed a b c d n k
-passed true b c d x y n k e = absurd (apart (cc e))
-passed false true c d x y n k e = absurd (apart (cc e))
-passed false false true d x y n k e = absurd (apart (cc e))
-passed false false false true x y n k e = absurd (apart (cc e))
+passed true b c d x y n k e = absurd (true≢false (cc e))
+passed false true c d x y n k e = absurd (true≢false (cc e))
+passed false false true d x y n k e = absurd (true≢false (cc e))
+passed false false false true x y n k e = absurd (true≢false (cc e))
 passed false false false false x y n k e = record { number = refl; store = refl; sheet = refl; room = refl; total = cc e }
 
 module _ (grants : List ℕ) (m : ℕ) (store : List ℕ) where
@@ -74,34 +66,18 @@ module _ (grants : List ℕ) (m : ℕ) (store : List ℕ) where
 
 -- ---- the parts, as the reader finds them
 
--- a part, whatever follows, is two words and what follows them
-part-headed : (b : List ℕ) (s : ℕ) (rest : List ℕ) → part b s ++ rest ≡ bytes32 s ++ (bytes32 (sheetLength b s) ++ (sheetBytes b s ++ rest))
-unfolding part
-part-headed b s rest = simp append-assoc
-
-length-sheet : (b : List ℕ) (s : ℕ) → offset b s + sheetLength b s ≤ length b → length (sheetBytes b s) ≡ sheetLength b s
-unfolding sheetBytes
-length-sheet b s h = length-take-le (sheetLength b s) (drop (offset b s) b) (simp length-drop (omega arith))
-
 parts-found : (b ss rest : List ℕ) → ((i : ℕ) → i < length ss → offset b (getD ss i 0) + sheetLength b (getD ss i 0) ≤ length b)
     → partsOf (parts b ss ++ rest) (length ss) ≡ map (stored b) ss
 unfolding partsOf parts
 parts-found b [] rest h = refl
 parts-found b (s ∷ ss) rest h =
-    let d : List ℕ = (part b s ++ parts b ss) ++ rest in
     let after : List ℕ = parts b ss ++ rest in
-    let split : d ≡ part b s ++ after = append-assoc (part b s) (parts b ss) rest in
-    let form : d ≡ bytes32 s ++ (bytes32 (sheetLength b s) ++ (sheetBytes b s ++ after)) = split ∙ part-headed b s after in
-    let number : le32 d 0 ≡ s = ap (λ (l : List ℕ). le32 l 0) form ∙ read-first s (sheetLength b s) _ in
-    let long : le32 d 4 ≡ sheetLength b s = ap (λ (l : List ℕ). le32 l 4) form ∙ read-second s (sheetLength b s) _ in
-    let body : drop 8 d ≡ sheetBytes b s ++ after = ap (drop 8) form ∙ drop-head s (sheetLength b s) (sheetBytes b s ++ after) in
-    let held : take (le32 d 4) (drop 8 d) ≡ sheetBytes b s =
-    ap₂ take long body ∙ take-at (sheetBytes b s) after (sheetLength b s) (length-sheet b s (h 0 (omega arith))) in
-    let next : drop (8 + le32 d 4) d ≡ after =
-    ap₂ (λ (k : ℕ) (l : List ℕ). drop (8 + k) l) long split ∙ drop-at (part b s) after (8 + sheetLength b s) (length-part b s (h 0 (omega arith))) in
-    ap₂ _∷_
+    let number = part-number b s (h 0 (omega arith)) after in
+    let held = part-bytes b s (h 0 (omega arith)) after in
+    ap (λ (l : List ℕ). partsOf l (suc (length ss))) (append-assoc (part b s) (parts b ss) rest)
+    ∙ ap₂ _∷_
     (λ i. record { number = number i; bytes = held i })
-    (ap (λ (l : List ℕ). partsOf l (length ss)) next ∙ parts-found b ss rest (λ i l. h (suc i) (omega arith)))
+    (ap (λ (l : List ℕ). partsOf l (length ss)) (part-next b s (h 0 (omega arith)) after) ∙ parts-found b ss rest (λ i l. h (suc i) (omega arith)))
 
 -- ---- a delivery
 
@@ -109,23 +85,10 @@ module _ (grants : List ℕ) (m : ℕ) (store rest : List ℕ) (ready : Ready gr
   abbrev mine : List ℕ
   mine = grantedSheets grants m
 
-  -- the bytes of a granted sheet lie in the store
-  inside : (i : ℕ) → i < length mine → offset store (getD mine i 0) + sheetLength store (getD mine i 0) ≤ length store
-  inside i h =
-      let so = granted-exactly grants m .only i h in
-      let entry = sound store (getD mine i 0) (fault-free grants m store _ (ready .sound) (so .0) (so .1)) in
-      omega (arith, entry .within, good store (ready .taken) .total)
-
-  behind : drop 8 (deliveryOf store mine ++ rest) ≡ parts store mine ++ rest
-  behind = ap (drop 8) headed ∙ drop-head (length mine) (deliveryLength store mine) (parts store mine ++ rest)
-    where
-      headed : deliveryOf store mine ++ rest ≡ bytes32 (length mine) ++ (bytes32 (deliveryLength store mine) ++ (parts store mine ++ rest))
-      headed = simp append-assoc
-
   delivery-parts : partsIn (deliveryOf store mine ++ rest) ≡ map (stored store) (listed (deliveryOf store mine ++ rest))
   delivery-parts =
-      ap₂ partsOf behind (delivery-count store mine rest)
-      ∙ parts-found store mine rest inside
+      ap₂ partsOf (behind store mine rest) (delivery-count store mine rest)
+      ∙ parts-found store mine rest (inside grants m store rest ready)
       ∙ ap (map (stored store)) (sym (delivery-lists grants m store rest ready))
 
 -- Where the grants say P, a delivery that is answered `Delivered` holds what one may have by P.

@@ -1,15 +1,14 @@
 -- The refusals of the book's reader and writer, line by line. Assumes nothing.
 use mathlib.Core.Path.{_≡_, refl, sym, ap, _∙_}
-use mathlib.Core.Bool.{Bool, true, false, not, cond, _||_}
+use mathlib.Core.Bool.{Bool, true, false, not, cond, _||_, false≢true}
 use mathlib.Core.List.{List, [], _∷_}
 use mathlib.Core.Logic.{⊎-elim}
 use Prim.Native.Nat.{ℕ}
-use native.Mathlib.Omega.{arith}
 use lib.Dec.{eqb, ltb}
 use lib.ListN.{length, getD}
 use borrow.Author.Tests.{eqb-true}
 use Rattle.base.specs.First.{first}
-use Rattle.base.proofs.First.{either}
+use Rattle.base.proofs.Truth.{either}
 use Rattle.rules.specs.Ranges.{bookHeader, longestBook}
 use Rattle.rules.specs.Refusals.{badLength, badTotal, badHeader, badCount, badRecord, notRising, illFormed, shortBuffer, shortList}
 use Rattle.group.specs.Fresh.{freshGroup}
@@ -48,7 +47,7 @@ unfolding firstMet code
 lines-told true b c i t = refl
 lines-told false true c i t = refl
 lines-told false false true i t = refl
-lines-told false false false i t = absurd (let z : _≡_ {A = ℕ} 0 1 = cc in omega arith)
+lines-told false false false i t = absurd (false≢true t)
 
 -- ---- the records
 

@@ -1,9 +1,8 @@
 -- A delivery's refusals, line by line. Assumes nothing.
 use mathlib.Core.Path.{_≡_, refl, ap, _∙_, sym}
-use mathlib.Core.Bool.{Bool, true, false, not, cond, _&&_}
+use mathlib.Core.Bool.{Bool, true, false, not, cond, _&&_, false≢true}
 use mathlib.Core.List.{List, [], _∷_}
 use Prim.Native.Nat.{ℕ}
-use native.Mathlib.Omega.{arith}
 use lib.Dec.{eqb, ltb, leb}
 use lib.ListN.{length}
 use Rattle.rules.specs.Ranges.{models, sheets}
@@ -38,11 +37,11 @@ lines-met false low good s = refl
 
 lines-told : (g low good : Bool) (s : ℕ) → g && not (eqb (fault low good) 0) ≡ true → firstMet (lines g low good s) ≡ at (fault low good) s
 unfolding firstMet fault
-lines-told true true true s t = absurd (let z : _≡_ {A = ℕ} 0 1 = cc in omega arith)
+lines-told true true true s t = absurd (false≢true t)
 lines-told true true false s t = refl
 lines-told true false true s t = refl
 lines-told true false false s t = refl
-lines-told false low good s t = absurd (let z : _≡_ {A = ℕ} 0 1 = cc in omega arith)
+lines-told false low good s t = absurd (false≢true t)
 
 module _ (grants : List ℕ) (m : ℕ) (store : List ℕ) where
   sheet-met : (s : ℕ) → any (sheetLines grants m store s) ≡ faulty grants m store s

@@ -8,6 +8,7 @@ use lib.Dec.{eqb, ltb, leb}
 use lib.ListN.{length}
 use borrow.Author.Tests.{leb-true, le-ltb, not-false}
 use Rattle.base.specs.First.{first}
+use Rattle.base.proofs.Truth.{both}
 use Rattle.rules.specs.Kinds.{SL}
 use Rattle.rules.specs.Ranges.{ticks, events}
 use Rattle.rules.specs.Refusals.{lateNow, longModel, longSheet, badModel, badSheet}
@@ -25,7 +26,6 @@ use Rattle.strip.specs.History.{historyOf}
 use Rattle.judge.specs.Evidence.{evidenceOf}
 use Rattle.judge.specs.Judge.{judgedBy}
 use Rattle.wire.proofs.Words.{length-words}
-use Rattle.store.proofs.Store.{both}
 use Rattle.ferrulebee.specs.Judge.{stripOf, wholeStrip, packed, judgedFrom}
 use Rattle.demands.specs.Lines.{Refusal, at, plain, none, Line, line, firstMet, Refuses}
 use Rattle.demands.specs.Refusals.{stripLines, judgeLines, bytesLines, refusedVerdict}

@@ -1,6 +1,6 @@
 -- What a model is answered, and what it sees next, depend on nothing but what it sees; a call that isn't shared shows it nothing. Assumes nothing.
 use mathlib.Core.Path.{_≡_, refl, sym, ap, ap₂, _∙_}
-use mathlib.Core.Bool.{Bool, true, false, cond, _||_}
+use mathlib.Core.Bool.{true, false, cond, true≢false, false≢true}
 use mathlib.Core.List.{List}
 use mathlib.Core.Logic.{⊎-elim}
 use Prim.Native.Nat.{ℕ, _<_}
@@ -8,12 +8,11 @@ use native.Mathlib.Omega.{arith}
 use lib.Dec.{eqb, leb}
 use lib.ListN.{length, getD}
 use borrow.Author.Tests.{ltb-true, ltb-false, eqb-true, eqb-false, ne-eqb}
-use Rattle.base.proofs.First.{either}
 use Rattle.base.proofs.Table.{getD-table}
+use Rattle.base.proofs.Truth.{either, neither}
 use Rattle.rules.specs.Kinds.{SA, LA, SR, LR, isAdd, isRemove}
 use Rattle.rules.specs.Ranges.{sheets, ticks}
 use Rattle.rules.specs.Refusals.{noTickLeft}
-use Rattle.bits.specs.Bit.{bit}
 use Rattle.group.specs.Carrier.{ofModel}
 use Rattle.group.specs.Fits.{Fits}
 use Rattle.group.specs.Read.{granted, readAnswer}
@@ -25,18 +24,9 @@ use Rattle.group.proofs.Fits.{request-fits, close-fits}
 use Rattle.group.proofs.Request.{request-refused}
 use Rattle.group.proofs.View.{other-model, view-refusal, view-request, view-close, view-close-code, view-read}
 use Rattle.store.specs.Agree.{Agree}
-use Rattle.store.specs.Granted.{granted as grantedBy}
 use Rattle.store.proofs.Agree.{same-answer, same-buffer}
 use Rattle.demands.specs.Calls.{Call, request, close, read, count, deliver, coded, shown, delivered, answerTo, after}
 use Rattle.demands.specs.Alike.{forSheet, shared}
-
--- true is not false
-never : _≡_ {A = Bool} true false → ⊥
-never e = let z : _≡_ {A = ℕ} 0 1 = cc e in omega arith
-
-neither : (x y : Bool) → x || y ≡ false → (x ≡ false) × (y ≡ false)
-neither true y e = absurd (never e)
-neither false y e = (refl, e)
 
 -- ---- whose request it is
 
@@ -86,7 +76,7 @@ module _ (m : ℕ) where
   pub unseen : (g : Group) (c : Call) → shared m c ≡ false → view m (after g c) ≡ view m g
   unfolding shared after
   unseen g (request kind n) f = other-request g kind n f
-  unseen g close f = absurd (never f)
+  unseen g close f = absurd (true≢false f)
   unseen g (read n s) f = refl
   unseen g (count s) f = refl
   unseen g (deliver n store out) f = refl
@@ -95,11 +85,11 @@ module _ (m : ℕ) where
 
   module _ (g h : Group) (alike : view m g ≡ view m h) where
     -- the model's bits are seen, so stores that agree on its grants in one group agree on those of the other
-    bit-seen : (x : Group) (s : ℕ) → s < sheets → getD (view m x .grants) s false ≡ grantedBy (x .grants) m s
-    unfolding view granted grantedBy bit
+    bit-seen : (x : Group) (s : ℕ) → s < sheets → getD (view m x .grants) s false ≡ granted x m s
+    unfolding view
     bit-seen x s l = getD-table sheets (λ s. granted x m s) s false l
 
-    same-bits : (s : ℕ) → s < sheets → grantedBy (g .grants) m s ≡ grantedBy (h .grants) m s
+    same-bits : (s : ℕ) → s < sheets → granted g m s ≡ granted h m s
     same-bits s l = sym (bit-seen g s l) ∙ ap (λ (v : View). getD (v .grants) s false) alike ∙ bit-seen h s l
 
     across : (b b′ : List ℕ) → Agree (g .grants) (g .grants) m b b′ → Agree (g .grants) (h .grants) m b b′
@@ -130,7 +120,7 @@ module _ (m : ℕ) where
         ap coded (view-refusal m g kind n (own kind n t) ∙ ap (λ (v : View). viewRefusal v kind n) alike ∙ sym (view-refusal m h kind n (own kind n t)))
     same-answers close t = ap coded (view-close-code m g ∙ ap (λ (v : View). cond (leb ticks (v .closed)) noTickLeft 0) alike ∙ sym (view-close-code m h))
     same-answers (read n s) t = rw (eqb-true n m t) (ap shown (same-read s))
-    same-answers (count s) t = absurd (never (sym t))
+    same-answers (count s) t = absurd (false≢true t)
     same-answers (deliver n store out) t = rw (eqb-true n m t) (same-delivery store store out (self store))
 
     pub same-after : Fits g → Fits h → (c : Call) → shared m c ≡ true → view m (after g c) ≡ view m (after h c)

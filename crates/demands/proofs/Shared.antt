@@ -1,18 +1,13 @@
 -- Two lists of calls that have the same shared calls, in the same order, are alike, wherever and however many the other calls are. Assumes nothing.
 use mathlib.Core.Path.{_≡_, sym, _∙_, subst}
-use mathlib.Core.Bool.{true, false}
+use mathlib.Core.Bool.{true, false, true≢false}
 use mathlib.Core.List.{List, [], _∷_}
 use mathlib.Core.Logic.{⊎-elim}
 use Prim.Native.Nat.{ℕ}
-use native.Mathlib.Omega.{arith}
-use Rattle.base.proofs.First.{either}
+use Rattle.base.proofs.Truth.{either}
 use Rattle.group.specs.declared.Group.{Group}
 use Rattle.demands.specs.Calls.{Call, after}
 use Rattle.demands.specs.Alike.{shared, sharedIn, Alike, done, both, left, right}
-
--- two constructors that were equal would make this one
-apart : _≡_ {A = ℕ} 0 1 → ⊥
-apart e = omega arith
 
 module _ (m : ℕ) where
   in-shared : (c : Call) (calls : List Call) → shared m c ≡ true → sharedIn m (c ∷ calls) ≡ c ∷ sharedIn m calls
@@ -27,7 +22,7 @@ module _ (m : ℕ) where
   from-none : (g : Group) (calls′ : List Call) → [] ≡ sharedIn m calls′ → Alike m g [] calls′
   from-none g [] e = done
   from-none g (d ∷ calls′) e = ⊎-elim
-      (λ (t : shared m d ≡ true). absurd (apart (cc (in-shared d calls′ t))))
+      (λ (t : shared m d ≡ true). absurd (true≢false (cc (in-shared d calls′ t))))
       (λ (f : shared m d ≡ false). right f (from-none g calls′ (rw (not-shared d calls′ f) at e)))
       (either (shared m d))
 
@@ -36,7 +31,7 @@ module _ (m : ℕ) where
       → ((calls′ : List Call) → sharedIn m calls ≡ sharedIn m calls′ → Alike m (after g c) calls calls′)
       → (calls′ : List Call) → c ∷ sharedIn m calls ≡ sharedIn m calls′ → Alike m g (c ∷ calls) calls′
   unfolding sharedIn
-  from-shared g c calls s next [] e = absurd (apart (cc e))
+  from-shared g c calls s next [] e = absurd (true≢false (cc e))
   from-shared g c calls s next (d ∷ calls′) e = ⊎-elim
       (λ (t : shared m d ≡ true).
       let same : c ∷ sharedIn m calls ≡ d ∷ sharedIn m calls′ = rw (in-shared d calls′ t) at e in

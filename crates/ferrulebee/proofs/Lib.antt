@@ -1,3 +1,2 @@
 -- What the promises of the exported calls fix.
 pub mod Parts
-pub mod Promise

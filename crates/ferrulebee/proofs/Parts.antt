@@ -4,15 +4,16 @@ use mathlib.Core.Path.{_≡_, refl, sym, ap, ap₂, _∙_}
 use mathlib.Core.Bool.{Bool, true, false, cond}
 use mathlib.Core.List.{List}
 use Prim.Native.Nat.{ℕ, _+_, _-_}
-use native.Mathlib.Nat.{le-refl}
 use lib.Dec.{eqb}
-use lib.ListN.{length, take, drop, length-drop, take-append-drop}
-use lib.Seq.{take-all, take-append-seam}
+use lib.ListN.{length, take, drop, take-append-drop}
+use lib.Seq.{take-append-seam}
 use denote.Ref.{RefT}
+use Rattle.base.specs.Part.{wordAt}
+use Rattle.base.proofs.Part.{tail}
 use Rattle.formula.specs.declared.Verdict.{Verdict}
 use Rattle.formula.specs.declared.Verdict.the-variants.{Granted, Denied, Refused}
 use Rattle.formula.specs.declared.Moment.the-variants.{Add, Join}
-use Rattle.judge.specs.Evidence.{placeOf, evidenceOf, startOf, wordAt}
+use Rattle.judge.specs.Evidence.{placeOf, evidenceOf, startOf}
 use Rattle.book.specs.Tick.{rising, placeFrom, tickPart, tickStart}
 use Rattle.book.proofs.Part.{no-part, part-here}
 use Rattle.ferrulebee.specs.declared.part.Part.{Part}
@@ -26,12 +27,9 @@ wordsIn p l = take (p .count) (drop (p .first) l)
 abbrev pub stripIn : Part → {A : Type 0} → A → A → A
 stripIn p m s = cond (eqb (p .list) sheetStrip) s m
 
-tail : (i : ℕ) (s : List ℕ) → take (length s - i) (drop i s) ≡ drop i s
-tail i s = take-all (length s - i) (drop i s) (simp length-drop (le-refl _))
-
 pub evidence-words : (v : Verdict) (m s : List ℕ) → wordsIn (evidencePart v m s) (stripIn (evidencePart v m s) m s) ≡ evidenceOf v m s
-evidence-words (Granted (Add t)) m s = tail (placeOf s t) s
-evidence-words (Granted (Join t)) m s = tail (placeOf m t) m
+evidence-words (Granted (Add t)) m s = tail s (placeOf s t)
+evidence-words (Granted (Join t)) m s = tail m (placeOf m t)
 evidence-words (Denied cause) m s = refl
 evidence-words (Refused refusal place) m s = refl
 

@@ -1,12 +1,12 @@
 -- The judge from C: "It hands each strip over as bytes, four a word, little-endian. It gets code × 2^32 + value."
-use Prim.Native.Nat.{ℕ, _+_, _*_, _/_, _%_, _^_}
+use Prim.Native.Nat.{ℕ, _+_, _*_, _%_, _^_}
 use mathlib.Core.Bool.{Bool, cond, not, _&&_}
 use mathlib.Core.List.{List}
 use lib.Dec.{eqb, ltb, leb}
 use lib.ListN.{length}
 use Rattle.rules.specs.Ranges.{ticks, events}
 use Rattle.rules.specs.Refusals.{lateNow, longModel, longSheet}
-use Rattle.wire.specs.Words.{words}
+pub use Rattle.wire.specs.Words.{wordsIn as stripOf}
 use Rattle.formula.specs.declared.Verdict.{Verdict}
 use Rattle.formula.specs.declared.Verdict.the-variants.{Refused}
 use Rattle.formula.specs.Answer.{numberOf, valueOf}
@@ -14,10 +14,6 @@ use Rattle.judge.specs.Judge.{judgedBy}
 
 abbrev pub packed : Verdict → ℕ
 packed v = numberOf v * 2 ^ 32 + valueOf v
-
--- the words of a strip's bytes
-abbrev pub stripOf : List ℕ → List ℕ
-stripOf b = words b (length b / 4)
 
 -- "longer than 4,096 words, or from C not whole words" fails this, by the number of bytes
 abbrev pub wholeStrip : ℕ → Bool

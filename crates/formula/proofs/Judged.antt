@@ -8,7 +8,8 @@ use native.Mathlib.Nat.{eq-or-lt-of-le}
 use lib.Dec.{eqb, ltb}
 use borrow.Author.Tests.{lt-ltb, ltb-true, ltb-false, ne-eqb, eq-eqb, eqb-true, eqb-false}
 use Rattle.base.specs.First.{first}
-use Rattle.base.proofs.First.{either, first-is, first-before, first-there, first-le}
+use Rattle.base.proofs.First.{first-is, first-before, first-there, first-le}
+use Rattle.base.proofs.Truth.{either, both}
 use Rattle.rules.specs.Kinds as kinds
 use Rattle.formula.specs.declared.Verdict.{Verdict}
 use Rattle.formula.specs.declared.Verdict.the-variants.{Granted, Denied}
@@ -24,13 +25,6 @@ use Rattle.formula.proofs.Meaning.{means-add, means-moment, means-stric
 -- a statement that fails has a false test
 unsaid : {b : Bool} {P : Type 0} → Says b P → (¬ P) → b ≡ false
 unsaid {b} s h = ⊎-elim (λ t. absurd (h (s .0 t))) (λ f. f) (either b)
-
-and-off : (a b : Bool) → a ≡ false → a && b ≡ false
-and-off a b e = ap (λ (x : Bool). x && b) e
-
-and-left : (a b : Bool) → a && b ≡ true → a ≡ true
-and-left true b e = refl
-and-left false b e = e
 
 module _ (model sheet : History) where
   latest-here : (t : ℕ) → moment model sheet (suc t) ≡ true → latest model sheet (suc t) ≡ suc t
@@ -107,7 +101,7 @@ module _ (model sheet : History) where
     unfolding earliest
     earliest-is e r =
         first-is after (suc now) e (omega (arith, r .upto))
-        (λ k h. ⊎-elim (λ y. unsaid (after-says k (ltb-true t k y)) (r .earlier k (ltb-true t k y) h)) (λ z. and-off _ _ z) (either (ltb t k)))
+        (λ k h. ⊎-elim (λ y. unsaid (after-says k (ltb-true t k y)) (r .earlier k (ltb-true t k y) h)) (λ (z : ltb t k ≡ false). simp z) (either (ltb t k)))
         (after-says e (r .from) .1 (r .there))
 
     earliest-or : (e : ℕ) → earliest model sheet t now ≡ e → ((k : ℕ) → t < k → k ≤ now → ¬ Strict model sheet k) ⊎ Earliest model sheet t now e
@@ -118,7 +112,7 @@ module _ (model sheet : History) where
         (λ y.
         let in-range : e < suc now = ltb-true e (suc now) y in
         let here : after e ≡ true = ap after (sym q) ∙ first-there after (suc now) (omega arith) in
-        let high : t < e = ltb-true t e (and-left _ _ here) in
+        let high : t < e = ltb-true t e (both _ _ here .0) in
         inr (record { from = high; upto = omega arith; there = after-says e high .0 here; earlier = λ k a b. says-not (after-says k a) (below k b) }))
         (λ z. inl (λ k a b.
         let w : suc now ≤ e = ltb-false e (suc now) z in

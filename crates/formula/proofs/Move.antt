@@ -1,11 +1,11 @@
 -- The one law that judge, running gate and book cite: how membership, the liberal stay and the grant move from one tick to the next,
 -- that a quiet tick moves nothing, and that a tick's answer rests on the events up to it. Assumes nothing.
-use mathlib.Core.Path.{_≡_, refl, sym, ap, ap₂, _∙_}
+use mathlib.Core.Path.{_≡_, refl, sym, ap, ap₂}
 use mathlib.Core.Bool.{Bool, true, false, not, _&&_, _||_}
 use Prim.Native.Nat.{ℕ, zero, suc, _≤_, _<_}
 use native.Mathlib.Omega.{arith}
 use lib.Dec.{eqb}
-use Rattle.rules.specs.Kinds.{LJ, SL, LA, SR, quiet, isJoin, isLeave, isAdd, isRemove}
+use Rattle.rules.specs.Kinds.{LJ, SL, LA, SR, isJoin, isLeave, isAdd, isRemove}
 use Rattle.formula.specs.Since.{since}
 use Rattle.formula.specs.Formula.{History}
 use Rattle.formula.specs.Ticks.{inside, liberal, byAdd, byJoin, moment, strict, grant}
@@ -28,9 +28,6 @@ module _ (model : History) where
   unfolding inside since
   inside-moves t = refl
 
-  pub inside-quiet : (t : ℕ) → model (suc t) ≡ quiet → inside model (suc t) ≡ inside model t
-  inside-quiet t e = inside-moves t ∙ simp e
-
 module _ (sheet : History) where
   pub liberal-start : liberal sheet 0 ≡ false
   unfolding liberal since
@@ -39,9 +36,6 @@ module _ (sheet : History) where
   pub liberal-moves : (t : ℕ) → liberal sheet (suc t) ≡ eqb (sheet (suc t)) LA || (not (isRemove (sheet (suc t))) && liberal sheet t)
   unfolding liberal since
   liberal-moves t = refl
-
-  pub liberal-quiet : (t : ℕ) → sheet (suc t) ≡ quiet → liberal sheet (suc t) ≡ liberal sheet t
-  liberal-quiet t e = liberal-moves t ∙ simp e
 
 module _ (model sheet : History) where
   pub grant-start : grant model sheet 0 ≡ false
@@ -53,16 +47,6 @@ module _ (model sheet : History) where
   grant-moves t =
       let free : ℕ → Bool = λ k. not (strict model sheet k) in
       join-since (byAdd model sheet (suc t)) (byJoin model sheet (suc t)) (free (suc t)) (since free (byAdd model sheet) t) (since free (byJoin model sheet) t)
-
-  pub moment-quiet : (t : ℕ) → model t ≡ quiet → sheet t ≡ quiet → moment model sheet t ≡ false
-  unfolding byAdd byJoin
-  moment-quiet t e f = simp (e, f)
-
-  pub strict-quiet : (t : ℕ) → model t ≡ quiet → sheet t ≡ quiet → strict model sheet t ≡ false
-  strict-quiet t e f = simp (e, f)
-
-  pub grant-quiet : (t : ℕ) → model (suc t) ≡ quiet → sheet (suc t) ≡ quiet → grant model sheet (suc t) ≡ grant model sheet t
-  grant-quiet t e f = grant-moves t ∙ simp (moment-quiet (suc t) e f, strict-quiet (suc t) e f)
 
 -- two histories with the same events up to tick t
 abbrev pub Same : ℕ → History → History → Type 0

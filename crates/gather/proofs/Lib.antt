@@ -1,3 +1,2 @@
--- Laws of the words that pass a test.
-pub mod Keep
+-- Laws of what is written word by word.
 pub mod Written

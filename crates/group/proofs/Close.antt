@@ -2,18 +2,17 @@
 use mathlib.Core.Path.{_≡_, refl, ap, _∙_}
 use mathlib.Core.Bool.{Bool, true, false, not, cond, _&&_, _||_}
 use mathlib.Core.Logic.{⊎-elim}
-use Prim.Native.Nat.{ℕ, _+_, _/_, _^_, _≤_, _<_}
+use Prim.Native.Nat.{ℕ, _+_, _/_, _^_, _<_}
 use native.Mathlib.Omega.{arith}
 use lib.Dec.{leb}
 use lib.Bits.{bitOr, or-lt}
 use lib.ListN.{getD}
-use borrow.Author.Tests.{leb-false, le-leb, lt-leb}
-use Rattle.base.proofs.First.{either as truth}
+use borrow.Author.Tests.{leb-false, lt-leb}
+use Rattle.base.proofs.Truth.{either as truth}
 use Rattle.base.proofs.Table.{getD-table}
 use Rattle.rules.specs.Kinds.{SJ, LJ, SL, LL, SA, LA, SR, LR}
 use Rattle.rules.specs.Ranges.{sheets, ticks}
-use Rattle.rules.specs.Refusals.{noTickLeft}
-use Rattle.bits.specs.Bit.{width, bit}
+use Rattle.bits.specs.Bit.{width, bit, bitIn}
 use Rattle.bits.specs.Set.{has, Words}
 use Rattle.bits.proofs.Bit.{bit-zero, bit-or, bit-and-not, bit-after}
 use Rattle.bits.proofs.Set.{has-either, has-after, words-either}
@@ -82,7 +81,7 @@ module _ (g : Group) (z : Fits g) where
       ≡ not (mark g SR s) && (granted g m s && not (mark g SL m))
       || (mark g SA s || mark g LA s) && modelIn (closedGroup g) m
       || sheetInByLA (closedGroup g) s && mark g LJ m
-  unfolding closedGroup closedWords granted
+  unfolding closedGroup closedWords bitIn
   closed-granted m s h =
       ap (λ (w : ℕ). bit w m) (getD-table sheets _ s 0 h)
       ∙ bit-closedWord (getD (g .grants) s 0) (has (g .sr) s) (has (adds g) s) (has (closedLiberal g) s) (closedMembers g) (g .sl) (g .lj) m (z .grants .words s) (z .sl)
@@ -110,7 +109,3 @@ module _ (g : Group) where
   pub close-accepted : g .closed < ticks → closeAnswer g ≡ record { code = 0; group = closedGroup g }
   unfolding closeAnswer
   close-accepted h = simp (lt-leb _ _ h)
-
-  pub close-refused : ticks ≤ g .closed → closeAnswer g ≡ record { code = noTickLeft; group = g }
-  unfolding closeAnswer
-  close-refused h = simp (le-leb _ _ h)

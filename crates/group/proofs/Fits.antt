@@ -9,7 +9,7 @@ use lib.Dec.{eqb, leb}
 use lib.Bits.{bitOr, or-lt}
 use lib.ListN.{length-replicate}
 use borrow.Author.Tests.{leb-false}
-use Rattle.base.proofs.First.{either as truth}
+use Rattle.base.proofs.Truth.{either as truth}
 use Rattle.base.proofs.Table.{length-table}
 use Rattle.rules.specs.Kinds.{SJ, LJ, SL, LL, SA, LA, SR, LR}
 use Rattle.rules.specs.Ranges.{models, sheets, groups, ticks}

@@ -1,27 +1,17 @@
 -- A fresh group: nobody and no sheet is in, and nothing is granted. Assumes nothing.
-use mathlib.Core.Path.{_≡_, refl, ap, _∙_}
+use mathlib.Core.Path.{_≡_, ap, _∙_}
 use mathlib.Core.Bool.{false}
-use Prim.Native.Nat.{ℕ, _≤_, _<_}
-use borrow.Author.Tests.{le-leb, lt-leb}
-use Rattle.rules.specs.Ranges.{sheets, groups}
-use Rattle.rules.specs.Refusals.{badGroup}
-use Rattle.bits.specs.Bit.{bit}
+use Prim.Native.Nat.{ℕ}
+use Rattle.rules.specs.Ranges.{sheets}
+use Rattle.bits.specs.Bit.{bit, bitIn}
 use Rattle.bits.proofs.Bit.{bit-zero}
 use Rattle.bits.proofs.Set.{getD-none, has-none}
 use Rattle.group.specs.Carrier.{sheetWords}
-use Rattle.group.specs.Fresh.{freshGroup, freshAnswer}
+use Rattle.group.specs.Fresh.{freshGroup}
 use Rattle.group.specs.Marks.{modelIn, sheetIn, sheetInByLA}
 use Rattle.group.specs.Read.{granted}
 
 module _ (n : ℕ) where
-  pub fresh-number : freshGroup n .number ≡ n
-  unfolding freshGroup
-  fresh-number = refl
-
-  pub fresh-closed : freshGroup n .closed ≡ 0
-  unfolding freshGroup
-  fresh-closed = refl
-
   pub fresh-modelIn : (m : ℕ) → modelIn (freshGroup n) m ≡ false
   unfolding freshGroup
   fresh-modelIn m = bit-zero m
@@ -35,15 +25,5 @@ module _ (n : ℕ) where
   fresh-sheetInByLA s = has-none sheetWords s
 
   pub fresh-granted : (m s : ℕ) → granted (freshGroup n) m s ≡ false
-  unfolding freshGroup granted
+  unfolding freshGroup bitIn
   fresh-granted m s = ap (λ (w : ℕ). bit w m) (getD-none sheets s) ∙ bit-zero m
-
-  -- ---- the answer
-
-  pub fresh-accepted : n < groups → freshAnswer n ≡ record { code = 0; group = freshGroup n }
-  unfolding freshAnswer
-  fresh-accepted h = simp (lt-leb _ _ h)
-
-  pub fresh-refused : groups ≤ n → freshAnswer n ≡ record { code = badGroup; group = freshGroup 0 }
-  unfolding freshAnswer
-  fresh-refused h = simp (le-leb _ _ h)

@@ -2,13 +2,12 @@
 pub mod Accepted
 pub mod Apart
 pub mod Carrier
+pub mod Cases
 pub mod Clear
 pub mod Close
-pub mod Event
 pub mod Fits
 pub mod Fresh
 pub mod Held
-pub mod Cases
 pub mod Lent
 pub mod Quiet
 pub mod Request

@@ -9,18 +9,16 @@ use lib.Dec.{eqb, leb}
 use lib.ListN.{getD}
 use borrow.Author.Tests.{ltb-true, ne-eqb, leb-false}
 use Rattle.base.specs.Table.{table}
-use Rattle.base.proofs.First.{either as truth}
-use Rattle.base.specs.HowMany.{howMany}
-use Rattle.base.proofs.HowMany.{howMany-ext}
+use Rattle.base.proofs.Truth.{either as truth}
 use Rattle.base.proofs.Table.{getD-table, table-ext}
 use Rattle.rules.specs.Kinds.{SA, LA, SR, LR}
 use Rattle.rules.specs.Ranges.{sheets, ticks}
 use Rattle.rules.specs.Refusals.{noTickLeft}
 use Rattle.bits.specs.Set.{none}
+use Rattle.bits.specs.Bit.{bitIn}
 use Rattle.bits.proofs.Bit.{bit-zero}
 use Rattle.group.specs.Carrier.{ofModel, sheetWords}
 use Rattle.group.specs.Close.{closedAdded, closedLiberal, closedGroup, closeAnswer}
-use Rattle.group.specs.Count.{sheetsGranted}
 use Rattle.group.specs.Fits.{Fits}
 use Rattle.group.specs.Read.{granted, readAnswer}
 use Rattle.group.specs.Request.{requestRefusal, markedGroup, requestAnswer}
@@ -33,7 +31,7 @@ use Rattle.group.proofs.Request.{bit-marked, request-code, request-case
 
 module _ (m : ℕ) (g : Group) (kind n : ℕ) where
   pub view-marked : view m (markedGroup g kind n) ≡ markedView m (view m g) kind n
-  unfolding view markedView markedGroup granted
+  unfolding view markedView markedGroup bitIn
   view-marked = simp bit-marked
 
 -- a model's kind is no sheet's kind
@@ -131,7 +129,3 @@ module _ (m : ℕ) (g : Group) where
       (λ (t : leb sheets s ≡ true). simp t)
       (λ (f : leb sheets s ≡ false). simp (f, granted-seen s (leb-false _ _ f)))
       (truth (leb sheets s))
-
-  pub view-sheets : sheetsGranted g m ≡ howMany (λ s. getD (view m g .grants) s false) sheets
-  unfolding sheetsGranted
-  view-sheets = howMany-ext _ _ sheets (λ s h. sym (granted-seen s h))

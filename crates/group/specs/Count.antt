@@ -1,4 +1,4 @@
--- How many models may read a sheet, and how many sheets a model.
+-- How many models may read a sheet.
 use mathlib.Core.Bool.{cond}
 use Prim.Native.Nat.{ℕ}
 use lib.Dec.{leb}
@@ -12,10 +12,6 @@ use Rattle.group.specs.declared.CountAnswer.{CountAnswer}
 -- "how many models may read a sheet"
 unfoldable pub modelsGranted : Group → ℕ → ℕ
 modelsGranted g s = howMany (λ m. granted g m s) models
-
--- how many sheets a model may read
-unfoldable pub sheetsGranted : Group → ℕ → ℕ
-sheetsGranted g m = howMany (λ s. granted g m s) sheets
 
 -- "read and count of models 2"
 unfoldable pub countAnswer : Group → ℕ → CountAnswer

@@ -2,7 +2,6 @@ pub mod Accepted
 pub mod Carrier
 pub mod Close
 pub mod Count
-pub mod Event
 pub mod Fits
 pub mod Fresh
 pub mod Gain

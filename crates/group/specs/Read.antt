@@ -3,17 +3,16 @@ use mathlib.Core.Path.{_≡_}
 use mathlib.Core.Bool.{Bool, true, false, cond}
 use Prim.Native.Nat.{ℕ}
 use lib.Dec.{leb}
-use lib.ListN.{getD}
 use Rattle.rules.specs.Ranges.{models, sheets}
 use Rattle.rules.specs.Refusals.{badNumber}
-use Rattle.bits.specs.Bit.{bit}
+use Rattle.bits.specs.Bit.{bitIn}
 use Rattle.group.specs.declared.Group.{Group}
 use Rattle.group.specs.declared.ReadAnswer.{ReadAnswer}
 use Rattle.group.specs.declared.ReadAnswer.the-variants.{Granted, Denied, Refused}
 
 -- "256 words of 64 bits, one word a sheet, one bit a model": model m is granted sheet s, as of the last close
-unfoldable pub granted : Group → ℕ → ℕ → Bool
-granted g m s = bit (getD (g .grants) s 0) m
+abbrev pub granted : Group → ℕ → ℕ → Bool
+granted g m s = bitIn (g .grants) s m
 
 -- "2: model or sheet number out of range (model looked at first)", 0 where both are in range
 unfoldable pub readRefusal : ℕ → ℕ → ℕ

@@ -8,14 +8,12 @@ use Prim.Native.Nat.{ℕ, suc, _≤_, _<_, _^_}
 use native.Mathlib.Numerals.{add-one}
 use native.Mathlib.Omega.{arith}
 use lib.Dec.{eqb, leb}
-use lib.ListN.{length, getD, getD-replicate}
+use lib.ListN.{length, getD}
 use borrow.Author.Tests.{eqb-true, eqb-false, leb-false}
-use Rattle.base.proofs.First.{either}
+use Rattle.base.proofs.Truth.{either}
 use Rattle.rules.specs.Kinds.{LJ, SL, SA, LA, SR, LR, isAdd, isRemove}
 use Rattle.rules.specs.Ranges.{models, sheets, groups, ticks}
-use Rattle.bits.specs.Bit.{bit}
-use Rattle.bits.proofs.Bit.{bit-zero}
-use Rattle.bits.proofs.Set.{has-none}
+use Rattle.bits.specs.Bit.{bitIn}
 use Rattle.event.specs.Word.{wordOf, tickOf, kindOf, numberOf}
 use Rattle.event.proofs.Word.{tick-word, kind-word, number-word}
 use Rattle.formula.specs.Formula.{History}
@@ -27,7 +25,7 @@ use Rattle.strip.specs.Good.{range}
 use Rattle.strip.specs.History.{historyOf}
 use Rattle.strip.proofs.Append.{each-more}
 use Rattle.group.specs.Accepted.{Accepted}
-use Rattle.group.specs.Carrier.{carriers, sheetWords}
+use Rattle.group.specs.Carrier.{carriers}
 use Rattle.group.specs.Close.{closedGroup}
 use Rattle.group.specs.Fits.{Fits}
 use Rattle.group.specs.Fresh.{freshGroup, freshAnswer}
@@ -39,12 +37,13 @@ use Rattle.group.proofs.Accepted.{accepted}
 use Rattle.group.proofs.Carrier.{sheet-number}
 use Rattle.group.proofs.Close.{closed-granted, closed-sheetInByLA, closed-closed, close-cases}
 use Rattle.group.proofs.Fits.{fresh-fits, marked-fits, closed-fits}
+use Rattle.group.proofs.Fresh.{fresh-modelIn, fresh-sheetInByLA, fresh-granted}
 use Rattle.group.proofs.Quiet.{fresh-unmarked}
 use Rattle.group.proofs.Request.{request-code, request-refused, request-accepted}
 use Rattle.history.specs.Run.{Call, request, close, Reached, step, run, fresh, reached}
 use Rattle.history.specs.Strips.{stripOf}
-use Rattle.history.proofs.Keep.{strip-later}
-use Rattle.history.proofs.Sides.{stays, inOn, in-closed}
+use Rattle.history.proofs.Strips.{strip-later}
+use Rattle.history.proofs.Sides.{stays, in-fresh, in-closed}
 use Rattle.history.proofs.Carried.{Carried, carried-marks, carried-before, fresh-carried}
 use Rattle.history.proofs.Closes.{close-carried}
 use Rattle.history.proofs.Requests.{request-carried}
@@ -71,22 +70,17 @@ pub record Agreed (g : Group) (t : ℕ) (ws : List ℕ) : Type 0 where
 
 -- ---- fresh
 
-fresh-out : (k : ℕ) (side : Side) (n : ℕ) → inOn side (freshGroup k) n ≡ false
-unfolding freshGroup
-fresh-out k Model n = bit-zero n
-fresh-out k Sheet n = has-none sheetWords n
-
 fresh-agreed : (k : ℕ) → k < 2 ^ 32 → Agreed (freshGroup k) 0 []
-unfolding freshGroup granted
+unfolding freshGroup
 fresh-agreed k h = record {
   fits = fresh-fits k h;
   tick = refl;
   limit = omega arith;
   words = λ i l. absurd (omega arith);
-  carried = λ side n l. fresh-carried (freshGroup k) side n (fresh-unmarked k) (fresh-out k side n);
-  insides = λ m l. bit-zero m ∙ sym (inside-start _);
-  liberals = λ s l. has-none sheetWords s ∙ sym (liberal-start _);
-  grants = λ m s l b. ap (λ (w : ℕ). bit w m) (getD-replicate sheets s 0 0 b) ∙ bit-zero m ∙ sym (grant-start _ _);
+  carried = λ side n l. fresh-carried (freshGroup k) side n (fresh-unmarked k) (in-fresh k side n);
+  insides = λ m l. fresh-modelIn k m ∙ sym (inside-start _);
+  liberals = λ s l. fresh-sheetInByLA k s ∙ sym (liberal-start _);
+  grants = λ m s l b. fresh-granted k m s ∙ sym (grant-start _ _);
 }
 
 -- ---- a request
@@ -113,7 +107,7 @@ module _ (g : Group) (t : ℕ) (ws : List ℕ) (a : Agreed g t ws) (kind n : ℕ
   unseen side i = strip-later side i ws t new (omega (arith, new-tick))
 
   marked-agreed : Agreed (markedGroup g kind n) t (ws ++ (new ∷ []))
-  unfolding markedGroup granted
+  unfolding markedGroup bitIn
   marked-agreed = record {
     fits = marked-fits g kind n (a .fits) (r .ranged);
     tick = a .tick;

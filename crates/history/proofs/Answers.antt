@@ -1,12 +1,11 @@
 -- What the answers of a group that agrees with its events say in the formula's words. Assumes nothing.
 use mathlib.Core.Path.{_≡_, refl}
-use mathlib.Core.Bool.{Bool, true, false, cond}
+use mathlib.Core.Bool.{Bool, true, false, cond, true≢false}
 use mathlib.Core.Logic.{⊎-elim, _↔_}
 use Prim.Native.Nat.{ℕ, _<_}
 use native.Mathlib.Numerals.{add-one}
-use native.Mathlib.Omega.{arith}
 use borrow.Author.Tests.{lt-leb}
-use Rattle.base.proofs.First.{either}
+use Rattle.base.proofs.Truth.{either}
 use Rattle.rules.specs.Ranges.{models, sheets}
 use Rattle.strip.specs.Good.{range}
 use Rattle.group.specs.Carrier.{ofModel, carriers}
@@ -21,14 +20,10 @@ use Rattle.history.proofs.Agreed.{Agrees}
 use Rattle.history.proofs.Requests.{accepted-good, good-accepted}
 use Rattle.history.proofs.Sides.{ofSide, carriers-range}
 
--- two constructors that were equal would make this one
-apart : _≡_ {A = ℕ} 0 1 → ⊥
-apart e = omega arith
-
 -- a read is granted exactly when the bit is set
 granted-says : (b : Bool) → (cond b Granted Denied ≡ Granted) ↔ (b ≡ true)
 granted-says true = (λ e. refl, λ e. refl)
-granted-says false = (λ e. absurd (apart (cc e)), λ e. absurd (apart (cc e)))
+granted-says false = (λ e. absurd (true≢false (cc e)), λ e. absurd (true≢false (cc e)))
 
 pub read-granted : (g : Group) (m s : ℕ) → m < models → s < sheets → (readAnswer g m s ≡ Granted) ↔ (granted g m s ≡ true)
 unfolding readAnswer

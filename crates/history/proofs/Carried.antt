@@ -21,7 +21,7 @@ use Rattle.strip.proofs.Append.{good-later, good-next, history-other, history-l
 use Rattle.group.specs.declared.Group.{Group}
 use Rattle.group.proofs.Quiet.{Unmarked}
 use Rattle.history.specs.Strips.{keep, stripOf}
-use Rattle.history.proofs.Keep.{strip-upto, strip-number}
+use Rattle.history.proofs.Strips.{strip-upto, strip-number}
 use Rattle.history.proofs.Sides.{even, inOn, Marks}
 
 -- the open tick, after t closed ones: no event of the carrier yet, or one, whose turn it is

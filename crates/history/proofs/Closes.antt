@@ -1,15 +1,13 @@
 -- A close keeps every carrier beside its strip. Assumes nothing.
-use mathlib.Core.Path.{_≡_, refl, sym, ap, _∙_}
-use mathlib.Core.Bool.{Bool, true, false, not, _&&_, _||_, Bool·not-not}
+use mathlib.Core.Path.{_≡_, sym, ap, _∙_}
+use mathlib.Core.Bool.{not, Bool·not-not}
 use mathlib.Core.List.{List}
 use Prim.Native.Nat.{ℕ, suc, _<_}
 use native.Mathlib.Omega.{arith}
 use lib.ListN.{length}
-use Rattle.rules.specs.Kinds.{quiet}
 use Rattle.event.specs.Word.{wordOf}
 use Rattle.strip.specs.declared.Side.{Side}
-use Rattle.strip.specs.declared.Side.the-variants.{Model, Sheet}
-use Rattle.strip.specs.Good.{enters, leaves, range}
+use Rattle.strip.specs.Good.{range}
 use Rattle.strip.proofs.Places.{UpTo}
 use Rattle.strip.proofs.Append.{length-more}
 use Rattle.group.specs.Carrier.{entering}
@@ -18,25 +16,16 @@ use Rattle.group.specs.Fits.{Fits}
 use Rattle.group.specs.declared.Group.{Group}
 use Rattle.group.proofs.Clear.{closed-mark}
 use Rattle.history.specs.Strips.{stripOf}
-use Rattle.history.proofs.Keep.{strip-all}
-use Rattle.history.proofs.Sides.{comes, goes, even, even-suc, turn-is, turn-side, same-turn, inOn, in-closed}
+use Rattle.history.proofs.Strips.{strip-all}
+use Rattle.history.proofs.Sides.{even, even-suc, turn-is, turn-side, same-turn, inOn, closed-idle, closed-event}
 use Rattle.history.proofs.Carried.{Open, idle, event, Carried, carried-good, not-quiet}
-
-in-quiet : (side : Side) (b : Bool) → enters side quiet || (not (leaves side quiet) && b) ≡ b
-in-quiet Model b = refl
-in-quiet Sheet b = refl
-
-comes-last : (e b : Bool) → e || (not (not e) && b) ≡ e
-comes-last true b = refl
-comes-last false b = refl
 
 module _ (g : Group) (z : Fits g) (side : Side) (n t : ℕ) (l : n < range side) where
   in-after : (s w : List ℕ) → inOn side g n ≡ not (even (length s)) → Open g side n t s w → inOn side (closedGroup g) n ≡ not (even (length w))
-  in-after s w i (idle m e) = in-closed g z side n quiet l m ∙ in-quiet side (inOn side g n) ∙ i ∙ ap (λ (x : List ℕ). not (even (length x))) (sym e)
+  in-after s w i (idle m e) = closed-idle g z side n l m ∙ i ∙ ap (λ (x : List ℕ). not (even (length x))) (sym e)
   in-after s w i (event k h turns m e) =
       let own = turn-side side (length s) k h turns in
-      in-closed g z side n k l m
-      ∙ simp (comes side k h, goes side k h, own) (comes-last (entering k) (inOn side g n))
+      closed-event g z side n k l h own m
       ∙ sym (same-turn (even (length s)) (entering k) .0 (sym (turn-is side (length s) k h own) ∙ turns))
       ∙ sym (rw (e, length-more s (wordOf (suc t) k n), even-suc (length s)) (Bool·not-not (even (length s))))
 

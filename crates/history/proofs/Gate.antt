@@ -21,7 +21,7 @@ use Rattle.strip.specs.Good.{range, Good}
 use Rattle.strip.specs.History.{historyOf}
 use Rattle.judge.specs.Judge.{judgedBy}
 use Rattle.judge.proofs.Promise.{judge-grants}
-use Rattle.group.specs.Count.{modelsGranted, sheetsGranted, countAnswer}
+use Rattle.group.specs.Count.{modelsGranted, countAnswer}
 use Rattle.group.specs.Read.{granted, readAnswer}
 use Rattle.group.specs.Request.{requestRefusal}
 use Rattle.group.specs.declared.Group.{Group}
@@ -75,11 +75,6 @@ module _ (number : ℕ) (calls : List Call) where
   pub count-is-formula : (s : ℕ) → s < sheets → countAnswer gate s ≡ record { code = 0; count = howMany (λ m. grant (model m) (sheet s) now) models }
   unfolding countAnswer
   count-is-formula s b = simp (lt-leb _ _ b, models-are-formula s b)
-
-  -- The sheets counted for a model are those that the formula grants it.
-  pub sheets-are-formula : (m : ℕ) → m < models → sheetsGranted gate m ≡ howMany (λ s. grant (model m) (sheet s) now) sheets
-  unfolding sheetsGranted
-  sheets-are-formula m l = howMany-ext _ _ sheets (λ s b. reached-agrees number calls .grants m s l b)
 
   -- ---- 2. Accepted events are well-formed.
 

@@ -8,3 +8,4 @@ pub mod Keep
 pub mod Requests
 pub mod Runs
 pub mod Sides
+pub mod Strips

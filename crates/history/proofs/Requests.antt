@@ -8,7 +8,7 @@ use native.Mathlib.Omega.{arith}
 use lib.Dec.{eqb}
 use lib.ListN.{length}
 use borrow.Author.Tests.{eqb-true, eq-eqb}
-use Rattle.base.proofs.First.{either}
+use Rattle.base.proofs.Truth.{either, both}
 use Rattle.rules.specs.Kinds.{LR, quiet}
 use Rattle.rules.specs.Ranges.{ticks}
 use Rattle.event.specs.Word.{wordOf, tickOf, kindOf, numberOf}
@@ -16,7 +16,6 @@ use Rattle.event.proofs.Word.{tick-word, kind-word, number-word}
 use Rattle.strip.specs.declared.Side.{Side}
 use Rattle.strip.specs.declared.Side.the-variants.{Model, Sheet}
 use Rattle.strip.specs.Good.{range, turn, tickBefore, Good}
-use Rattle.strip.proofs.Places.{both}
 use Rattle.strip.proofs.Append.{good-end, before-end}
 use Rattle.group.specs.Accepted.{Accepted}
 use Rattle.group.specs.Carrier.{carriers, entering}
@@ -27,7 +26,7 @@ use Rattle.group.specs.declared.Group.{Group}
 use Rattle.group.proofs.Carrier.{sheet-number}
 use Rattle.group.proofs.Request.{mark-marked}
 use Rattle.history.specs.Strips.{carriedBy, stripOf}
-use Rattle.history.proofs.Keep.{strip-later, strip-other, strip-own}
+use Rattle.history.proofs.Strips.{strip-later, strip-other, strip-own}
 use Rattle.history.proofs.Sides.{by-kind, ofSide, even, turn-is, turn-side, same-turn, inOn, markedOn, carriers-range, carried-is, carried-parts, Marks, known, known-side, marked-known}
 use Rattle.history.proofs.Carried.{Open, idle, event, Carried, carried-good, not-quiet}
 

@@ -6,21 +6,22 @@ use Prim.Native.Nat.{ℕ, suc, _%_, _≤_, _<_}
 use native.Mathlib.Omega.{arith}
 use lib.Dec.{eqb}
 use borrow.Author.Tests.{not-true, eqb-true, eqb-false, eq-eqb, ne-eqb}
-use Rattle.base.proofs.First.{either}
-use Rattle.rules.specs.Kinds.{SJ, LJ, SL, LL, SA, LA, SR, LR}
+use Rattle.base.proofs.Truth.{either, both}
+use Rattle.rules.specs.Kinds.{SJ, LJ, SL, LL, SA, LA, SR, LR, quiet}
 use Rattle.rules.specs.Ranges.{models, sheets}
 use Rattle.event.specs.Word.{kindOf, numberOf}
 use Rattle.strip.specs.declared.Side.{Side}
 use Rattle.strip.specs.declared.Side.the-variants.{Model, Sheet}
 use Rattle.strip.specs.Good.{enters, leaves, range, turn}
-use Rattle.strip.proofs.Places.{both}
 use Rattle.group.specs.Carrier.{ofModel, carriers, entering}
 use Rattle.group.specs.Close.{closedGroup}
 use Rattle.group.specs.Fits.{Fits}
+use Rattle.group.specs.Fresh.{freshGroup}
 use Rattle.group.specs.Marks.{mark, modelMarked, sheetMarked, modelIn, sheetIn}
 use Rattle.group.specs.declared.Group.{Group}
 use Rattle.group.proofs.Close.{closed-modelIn, closed-sheetIn}
 use Rattle.group.proofs.Cases.{each-kind}
+use Rattle.group.proofs.Fresh.{fresh-modelIn, fresh-sheetIn}
 use Rattle.history.specs.Strips.{carriedBy}
 
 -- ---- kinds
@@ -86,6 +87,10 @@ inOn side g n = bySide side (modelIn g n) (sheetIn g n)
 abbrev pub markedOn : Side → Group → ℕ → Bool
 markedOn side g n = bySide side (modelMarked g n) (sheetMarked g n)
 
+pub in-fresh : (number : ℕ) (side : Side) (n : ℕ) → inOn side (freshGroup number) n ≡ false
+in-fresh number Model n = fresh-modelIn number n
+in-fresh number Sheet n = fresh-sheetIn number n
+
 pub carriers-range : (side : Side) (kind : ℕ) → ofSide side kind ≡ true → carriers kind ≡ range side
 carriers-range Model kind e = by-kind Model kind models sheets e
 carriers-range Sheet kind e = by-kind Sheet kind models sheets e
@@ -133,3 +138,18 @@ in-closed g z Model n o l h =
 in-closed g z Sheet n o l h =
     closed-sheetIn g z n l
     ∙ simp (h SA (omega arith) refl, h LA (omega arith) refl, h SR (omega arith) refl, h LR (omega arith) refl) (stays (sheetIn g n) (leaves Sheet o) (enters Sheet o))
+
+-- a carrier without an event stays as it was
+pub closed-idle : (g : Group) → Fits g → (side : Side) (n : ℕ) → n < range side → Marks g side n quiet → inOn side (closedGroup g) n ≡ inOn side g n
+closed-idle g z Model n l h = in-closed g z Model n quiet l h
+closed-idle g z Sheet n l h = in-closed g z Sheet n quiet l h
+
+-- one with an event is in exactly when it entered
+comes-last : (e b : Bool) → e || (not (not e) && b) ≡ e
+comes-last true b = refl
+comes-last false b = refl
+
+pub closed-event : (g : Group) → Fits g → (side : Side) (n k : ℕ) → n < range side → k ≤ LR → ofSide side k ≡ true → Marks g side n k
+    → inOn side (closedGroup g) n ≡ entering k
+closed-event g z side n k l known own h =
+    in-closed g z side n k l h ∙ simp (comes side k known, goes side k known, own) (comes-last (entering k) (inOn side g n))

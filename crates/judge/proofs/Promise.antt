@@ -1,5 +1,6 @@
 -- What the promises of the judge and of the evidence say in the formula's words. Assumes nothing.
 use mathlib.Core.Path.{_≡_, refl, sym, ap, _∙_}
+use mathlib.Core.Bool.{true≢false}
 use mathlib.Core.Logic.{_⊎_, inl, inr, ⊎-elim, _↔_}
 use mathlib.Core.List.{List}
 use Prim.Native.Nat.{ℕ, _≤_, _<_}
@@ -36,10 +37,6 @@ pub record Accepted (m s : List ℕ) (now : ℕ) : Type 0 where
   pub good-m : Good Model now m
   pub good-s : Good Sheet now s
 
--- two constructors that were equal would make this one
-apart : _≡_ {A = ℕ} 0 1 → ⊥
-apart e = omega arith
-
 module _ (m s : List ℕ) (now : ℕ) (a : Accepted m s now) where
   judges : judgedBy m s now ≡ verdict (historyOf m) (historyOf s) now
   judges = simp (
@@ -62,11 +59,11 @@ module _ (m s : List ℕ) (now : ℕ) (a : Accepted m s now) where
   only v (by-add t g l b) = (λ x. g, λ x. (Add t, refl))
   only v (by-join t g l b) = (λ x. g, λ x. (Join t, refl))
   only v (none h) = (
-    λ x. absurd (apart (cc (x .1))),
+    λ x. absurd (true≢false (cc (x .1))),
     λ g. absurd (⊎-elim (λ i. h (i .0) (i .1) (i .2) (inl (i .3))) (λ i. h (i .0) (i .1) (i .2) (inr (i .3))) g),
   )
-  only v (strict-leave t e g l r b) = (λ x. absurd (apart (cc (x .1))), λ y. absurd (g y))
-  only v (strict-remove t e g l r b) = (λ x. absurd (apart (cc (x .1))), λ y. absurd (g y))
+  only v (strict-leave t e g l r b) = (λ x. absurd (true≢false (cc (x .1))), λ y. absurd (g y))
+  only v (strict-remove t e g l r b) = (λ x. absurd (true≢false (cc (x .1))), λ y. absurd (g y))
 
   pub judge-grants : Grants (judgedBy m s now) ↔ Grant (historyOf m) (historyOf s) now
   judge-grants = only (judgedBy m s now) judge-means
@@ -88,17 +85,17 @@ located s r k t n e =
 module _ (m s : List ℕ) (now : ℕ) (a : Accepted m s now) (t : ℕ) where
   moment-add : (v : Verdict) → Judged (historyOf m) (historyOf s) now v → v ≡ Granted (Add t) → ByAdd (historyOf m) (historyOf s) t
   moment-add v (by-add u g l b) e = let q : u ≡ t = cc e in rw (← q) b
-  moment-add v (by-join u g l b) e = absurd (apart (cc e))
-  moment-add v (none h) e = absurd (apart (cc e))
-  moment-add v (strict-leave u w g l r b) e = absurd (apart (cc e))
-  moment-add v (strict-remove u w g l r b) e = absurd (apart (cc e))
+  moment-add v (by-join u g l b) e = absurd (true≢false (cc e))
+  moment-add v (none h) e = absurd (true≢false (cc e))
+  moment-add v (strict-leave u w g l r b) e = absurd (true≢false (cc e))
+  moment-add v (strict-remove u w g l r b) e = absurd (true≢false (cc e))
 
   moment-join : (v : Verdict) → Judged (historyOf m) (historyOf s) now v → v ≡ Granted (Join t) → ByJoin (historyOf m) (historyOf s) t
   moment-join v (by-join u g l b) e = let q : u ≡ t = cc e in rw (← q) (⊎-elim (λ x. absurd (b x)) (λ y. y) (l .there))
-  moment-join v (by-add u g l b) e = absurd (apart (cc e))
-  moment-join v (none h) e = absurd (apart (cc e))
-  moment-join v (strict-leave u w g l r b) e = absurd (apart (cc e))
-  moment-join v (strict-remove u w g l r b) e = absurd (apart (cc e))
+  moment-join v (by-add u g l b) e = absurd (true≢false (cc e))
+  moment-join v (none h) e = absurd (true≢false (cc e))
+  moment-join v (strict-leave u w g l r b) e = absurd (true≢false (cc e))
+  moment-join v (strict-remove u w g l r b) e = absurd (true≢false (cc e))
 
   -- the evidence by add starts with the sheet's add record of the moment's tick
   pub evidence-add : judgedBy m s now ≡ Granted (Add t) → Record s SA t ⊎ Record s LA t

@@ -7,7 +7,8 @@ use native.Mathlib.Omega.{arith}
 use lib.Dec.{eqb, ltb}
 use borrow.Author.Tests.{lt-ltb, le-ltb, ne-eqb}
 use Rattle.base.specs.First.{first}
-use Rattle.base.proofs.First.{either, first-none, step-found, step-now, step-on}
+use Rattle.base.proofs.First.{first-none, step-found, step-now, step-on}
+use Rattle.base.proofs.Truth.{either}
 use Rattle.rules.specs.Kinds.{LJ, SL, SR, isAdd}
 use Rattle.formula.specs.Formula.{History}
 use Rattle.formula.specs.Ticks.{inside, liberal, byAdd, byJoin, strict, grant}
@@ -16,9 +17,6 @@ use Rattle.formula.proofs.Move.{inside-start, inside-moves, liberal-start, libe
 use Rattle.judge.specs.declared.scan.Standing.{Standing}
 use Rattle.judge.specs.declared.scan.Standing.the-variants.{Never, ByAdd, ByJoin, Left, Removed}
 use Rattle.judge.specs.Scan.{standsAfter, scanTo, toldBy}
-
-and-off : (a b : Bool) → a ≡ false → a && b ≡ false
-and-off a b e = ap (λ (x : Bool). x && b) e
 
 module _ (model sheet : History) where
   -- ---- membership and the liberal stay
@@ -108,7 +106,7 @@ module _ (model sheet : History) where
 
     early-none : earliest model sheet (suc t) (suc t) ≡ suc (suc t)
     unfolding earliest
-    early-none = first-none (p (suc t)) (suc (suc t)) (λ u h. and-off (ltb (suc t) u) _ (le-ltb (suc t) u (omega arith)))
+    early-none = first-none (p (suc t)) (suc (suc t)) (λ u h. simp (le-ltb (suc t) u (omega arith)))
 
     -- one tick on, by what happens in it
     abbrev Moves : Standing → Bool → Bool → Bool → Bool → Type 0

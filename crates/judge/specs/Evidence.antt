@@ -1,10 +1,11 @@
 -- "The evidence is a part of one of the two lent strips: from the add record in the sheet's strip, or from the join record in the model's strip, to that strip's end. Denied or refused: the empty part at the start of the model's strip."
-use Prim.Native.Nat.{ℕ, _+_, _*_}
+use Prim.Native.Nat.{ℕ}
 use mathlib.Core.List.{List, []}
 use lib.Dec.{eqb}
 use lib.ListN.{length, getD, drop}
 use denote.Ref.{RefT}
 use Rattle.base.specs.First.{first}
+use Rattle.base.specs.Part.{wordAt}
 use Rattle.event.specs.Word.{tickOf}
 use Rattle.formula.specs.declared.Verdict.{Verdict}
 use Rattle.formula.specs.declared.Verdict.the-variants.{Granted, Denied, Refused}
@@ -21,10 +22,7 @@ evidenceOf (Granted (Join t)) m s = drop (placeOf m t) m
 evidenceOf (Denied cause) m s = []
 evidenceOf (Refused refusal place) m s = []
 
--- where it stands: the address (block and byte) of word i of a strip
-abbrev pub wordAt : RefT (List ℕ) → ℕ → ℕ × ℕ
-wordAt s i = (s .ptr .0, i * 4 + s .ptr .1)
-
+-- where it stands
 abbrev pub startOf : Verdict → RefT (List ℕ) → RefT (List ℕ) → ℕ × ℕ
 startOf (Granted (Add t)) m s = wordAt s (placeOf (s .now) t)
 startOf (Granted (Join t)) m s = wordAt m (placeOf (m .now) t)

@@ -1,6 +1,6 @@
 -- The mask as a scan from the last position to the first: what it is at each position, and that it fits. Nothing here is about code. Assumes nothing.
 use mathlib.Core.Path.{_≡_, refl, _∙_}
-use mathlib.Core.Bool.{Bool, true, false, cond, _||_, true≢false}
+use mathlib.Core.Bool.{true, false, cond, _||_}
 use mathlib.Core.List.{List, [], _∷_}
 use mathlib.Core.Logic.{⊎-elim}
 use Prim.Native.Nat.{ℕ, zero, suc, _+_, _-_, _*_, _^_, _<_, _≤_}
@@ -11,7 +11,7 @@ use lib.ListN.{length, getD, take, drop}
 use lib.Pow.{pow-pos}
 use lib.Seq.{take-length}
 use borrow.Author.Tests.{eqb-true, ltb-false}
-use Rattle.base.proofs.First.{either}
+use Rattle.base.proofs.Truth.{either, neither, one-le}
 use Rattle.rules.specs.Ranges.{groups}
 use Rattle.rules.specs.Refusals.{badList}
 use Rattle.group.specs.declared.Group.{Group}
@@ -39,10 +39,6 @@ mask-step (g ∷ gs) (suc e) model sheet (suc t) d te tl = mask-step gs e model 
 
 -- ---- the mask fits
 
-one-le : (b : Bool) → cond b 1 0 ≤ 1
-one-le true = omega arith
-one-le false = omega arith
-
 pub mask-below : (gs : List Group) (e model sheet t : ℕ) → maskAt gs e model sheet t < 2 ^ e
 unfolding maskOf
 mask-below gs zero model sheet zero = omega arith
@@ -64,16 +60,12 @@ mask-32 gs e model sheet t le = let h = mask-fits gs e model sheet t le in omega
 
 -- ---- how many are looked at
 
-second-false : (a b : Bool) → a || b ≡ false → b ≡ false
-second-false true b h = absurd (true≢false h)
-second-false false b h = h
-
 -- a list that is not refused is no longer than 16
 short : (n model sheet : ℕ) → listRefusal n model sheet ≡ 0 → n ≤ groups
 unfolding listRefusal
 short n model sheet e = ⊎-elim
     (λ (t : eqb n 0 || ltb groups n ≡ true). let z : badList ≡ 0 = simp t at e in absurd (omega arith))
-    (λ (f : eqb n 0 || ltb groups n ≡ false). ltb-false _ _ (second-false (eqb n 0) (ltb groups n) f))
+    (λ (f : eqb n 0 || ltb groups n ≡ false). ltb-false _ _ (neither (eqb n 0) (ltb groups n) f .1))
     (either (eqb n 0 || ltb groups n))
 
 pub looked-le : (n model sheet : ℕ) → lookedAt n model sheet ≤ n

@@ -8,8 +8,8 @@ use native.Mathlib.Omega.{arith}
 use borrow.Author.Tests.{ltb-true, ltb-false}
 use lib.Dec.{leb, ltb, eqb}
 use lib.ListN.{length, getD}
-use Rattle.base.specs.First.{first}
-use Rattle.base.proofs.First.{either, first-le, first-there}
+use Rattle.base.proofs.First.{first-ext, first-le, first-there}
+use Rattle.base.proofs.Truth.{either, both}
 use Rattle.rules.specs.Ranges.{models, sheets}
 use Rattle.rules.specs.Refusals.{notInStore, badEntry}
 use Rattle.wire.specs.Word.{le32, bytes32}
@@ -22,17 +22,9 @@ use Rattle.store.specs.Fault.{faulty, firstFaulty}
 use Rattle.store.specs.Delivery.{part, parts, deliveryOf, grantedSheets}
 use Rattle.store.specs.Answer.{answer, written, bufferAfter}
 use Rattle.store.specs.Agree.{Agree}
-use Rattle.store.proofs.Store.{both}
 use Rattle.store.proofs.Entry.{fault-missing, sound}
 use Rattle.store.proofs.Fault.{fault-free}
 use Rattle.store.proofs.Listed.{granted-exactly}
-
--- tests that agree below n find the same first place
-first-same : (p q : ℕ → Bool) (n : ℕ) → ((k : ℕ) → k < n → p k ≡ q k) → first p n ≡ first q n
-unfolding first
-first-same p q zero h = refl
-first-same p q (suc n) h =
-    ap₂ (λ (f : ℕ) (t : Bool). cond (ltb f n) f (cond t n (suc n))) (first-same p q n (λ k l. h k (omega arith))) (h n (omega arith))
 
 below-same : (grants grants′ : List ℕ) (m n : ℕ) → ((s : ℕ) → s < n → granted grants m s ≡ granted grants′ m s) → grantedBelow grants m n ≡ grantedBelow grants′ m n
 unfolding grantedBelow
@@ -97,7 +89,7 @@ module _ (grants grants′ : List ℕ) (m : ℕ) (b b′ : List ℕ) (same : Agr
       (either (granted grants m s))
 
   same-first : firstFaulty grants m b ≡ firstFaulty grants′ m b′
-  same-first = first-same (faulty grants m b) (faulty grants′ m b′) sheets same-faulty
+  same-first = first-ext (faulty grants m b) (faulty grants′ m b′) sheets same-faulty
 
   same-sheets : grantedSheets grants m ≡ grantedSheets grants′ m
   same-sheets = below-same grants grants′ m sheets (same .bits)

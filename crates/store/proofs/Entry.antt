@@ -7,11 +7,10 @@ use Prim.Native.Nat.{ℕ, _+_, _≤_, _<_}
 use native.Mathlib.Omega.{arith}
 use lib.Dec.{ltb}
 use borrow.Author.Tests.{lt-ltb, le-ltb, le-leb, lt-leb, ltb-true, leb-true}
-use Rattle.base.proofs.First.{either}
+use Rattle.base.proofs.Truth.{either, both}
 use Rattle.rules.specs.Refusals.{notInStore, badEntry}
 use Rattle.store.specs.Store.{totalLength, sheetCount, bytesStart}
 use Rattle.store.specs.Entry.{offset, sheetLength, goodEntry, entryFault}
-use Rattle.store.proofs.Store.{both}
 
 module _ (b : List ℕ) (s : ℕ) where
   pub fault-missing : sheetCount b ≤ s → entryFault b s ≡ notInStore

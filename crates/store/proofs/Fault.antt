@@ -7,7 +7,8 @@ use Prim.Native.Nat.{ℕ, _<_}
 use native.Mathlib.Omega.{arith}
 use borrow.Author.Tests.{ne-eqb, eqb-true, eqb-false}
 use lib.Dec.{eqb}
-use Rattle.base.proofs.First.{either, first-before}
+use Rattle.base.proofs.First.{first-before}
+use Rattle.base.proofs.Truth.{either}
 use Rattle.rules.specs.Ranges.{sheets}
 use Rattle.store.specs.Entry.{entryFault}
 use Rattle.store.specs.Granted.{granted}

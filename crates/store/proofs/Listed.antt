@@ -8,13 +8,13 @@ use native.Mathlib.Nat.{eq-or-lt-of-le}
 use native.Mathlib.Numerals.{add-one}
 use native.Mathlib.Omega.{arith}
 use lib.ListN.{length, getD, drop, length-append, List·getD-append}
-use lib.Seq.{getD-append-seam, drop-at}
-use Rattle.base.proofs.First.{either}
+use lib.Seq.{getD-append-seam}
+use Rattle.base.proofs.Truth.{either}
 use Rattle.rules.specs.Ranges.{sheets}
 use Rattle.wire.specs.Word.{le32, bytes32}
 use Rattle.store.specs.Entry.{offset, sheetLength}
 use Rattle.store.specs.Granted.{granted, grantedBelow}
-use Rattle.store.specs.Delivery.{part, parts, sheetBytes, deliveryLength, deliveryOf, grantedSheets}
+use Rattle.store.specs.Delivery.{part, parts, deliveryLength, deliveryOf, grantedSheets}
 use Rattle.store.specs.Ready.{Ready}
 use Rattle.store.specs.Listed.{numbers, listed, Exactly}
 use Rattle.store.proofs.Store.{good}
@@ -22,7 +22,7 @@ use Rattle.store.proofs.Entry.{sound}
 use Rattle.store.proofs.Fault.{fault-free}
 use Rattle.store.proofs.Head.{read-first, read-second, drop-head}
 use Rattle.store.proofs.Granted.{below-in, below-out}
-use Rattle.store.proofs.Parts.{length-part}
+use Rattle.store.proofs.Parts.{part-number, part-next}
 
 -- a list with one more at its end
 module _ (l : List ℕ) (x : ℕ) where
@@ -131,25 +131,17 @@ module _ (grants : List ℕ) (m : ℕ) where
         rising = so .rising;
       }
 
--- a part, whatever follows, is two words and what follows them
-part-headed : (b : List ℕ) (s : ℕ) (rest : List ℕ) → part b s ++ rest ≡ bytes32 s ++ (bytes32 (sheetLength b s) ++ (sheetBytes b s ++ rest))
-unfolding part
-part-headed b s rest = simp append-assoc
-
 -- the reader finds the numbers that were written, whatever follows
 parts-numbers : (b ss rest : List ℕ) → ((i : ℕ) → i < length ss → offset b (getD ss i 0) + sheetLength b (getD ss i 0) ≤ length b)
     → numbers (parts b ss ++ rest) (length ss) ≡ ss
 unfolding numbers parts
 parts-numbers b [] rest h = refl
 parts-numbers b (s ∷ ss) rest h =
-    let d : List ℕ = (part b s ++ parts b ss) ++ rest in
-    let split : d ≡ part b s ++ (parts b ss ++ rest) = append-assoc (part b s) (parts b ss) rest in
-    let form : d ≡ bytes32 s ++ (bytes32 (sheetLength b s) ++ (sheetBytes b s ++ (parts b ss ++ rest))) = split ∙ part-headed b s (parts b ss ++ rest) in
-    let number : le32 d 0 ≡ s = ap (λ (l : List ℕ). le32 l 0) form ∙ read-first s (sheetLength b s) _ in
-    let long : le32 d 4 ≡ sheetLength b s = ap (λ (l : List ℕ). le32 l 4) form ∙ read-second s (sheetLength b s) _ in
-    let next : drop (8 + le32 d 4) d ≡ parts b ss ++ rest =
-    ap₂ (λ (k : ℕ) (l : List ℕ). drop (8 + k) l) long split ∙ drop-at (part b s) (parts b ss ++ rest) (8 + sheetLength b s) (length-part b s (h 0 (omega arith))) in
-    ap₂ (λ (x : ℕ) (l : List ℕ). x ∷ l) number (ap (λ (l : List ℕ). numbers l (length ss)) next ∙ parts-numbers b ss rest (λ i l. h (suc i) (omega arith)))
+    let after : List ℕ = parts b ss ++ rest in
+    ap (λ (l : List ℕ). numbers l (suc (length ss))) (append-assoc (part b s) (parts b ss) rest)
+    ∙ ap₂ (λ (x : ℕ) (l : List ℕ). x ∷ l)
+    (part-number b s (h 0 (omega arith)) after)
+    (ap (λ (l : List ℕ). numbers l (length ss)) (part-next b s (h 0 (omega arith)) after) ∙ parts-numbers b ss rest (λ i l. h (suc i) (omega arith)))
 
 -- a delivery's first two words, whatever follows
 module _ (b ss rest : List ℕ) where
@@ -162,12 +154,12 @@ module _ (b ss rest : List ℕ) where
   pub delivery-total : le32 (deliveryOf b ss ++ rest) 4 ≡ deliveryLength b ss
   delivery-total = ap (λ (l : List ℕ). le32 l 4) headed ∙ read-second (length ss) (deliveryLength b ss) (parts b ss ++ rest)
 
-  behind : drop 8 (deliveryOf b ss ++ rest) ≡ parts b ss ++ rest
+  pub behind : drop 8 (deliveryOf b ss ++ rest) ≡ parts b ss ++ rest
   behind = ap (drop 8) headed ∙ drop-head (length ss) (deliveryLength b ss) (parts b ss ++ rest)
 
 module _ (grants : List ℕ) (m : ℕ) (b rest : List ℕ) (ready : Ready grants m b) where
   -- the bytes of a granted sheet lie in the store
-  inside : (i : ℕ) → i < length (grantedSheets grants m) → offset b (getD (grantedSheets grants m) i 0) + sheetLength b (getD (grantedSheets grants m) i 0) ≤ length b
+  pub inside : (i : ℕ) → i < length (grantedSheets grants m) → offset b (getD (grantedSheets grants m) i 0) + sheetLength b (getD (grantedSheets grants m) i 0) ≤ length b
   inside i h =
       let so = granted-exactly grants m .only i h in
       let entry = sound b (getD (grantedSheets grants m) i 0) (fault-free grants m b _ (ready .sound) (so .0) (so .1)) in

@@ -6,7 +6,7 @@ use mathlib.Core.Logic.{⊎-elim}
 use Prim.Native.Nat.{ℕ, zero, suc, _+_, _*_, _≤_, _<_}
 use native.Mathlib.Numerals.{add-one}
 use native.Mathlib.Omega.{arith}
-use Rattle.base.proofs.First.{either}
+use Rattle.base.proofs.Truth.{either}
 use Rattle.rules.specs.Ranges.{sheets, storeBytes}
 use Rattle.store.specs.Granted.{granted, grantedBelow}
 use Rattle.store.specs.Delivery.{deliveryLength, grantedSheets}

@@ -1,5 +1,5 @@
--- The parts of a delivery: their lengths, and one part more. Assumes nothing.
-use mathlib.Core.Path.{_≡_, refl, ap}
+-- The parts of a delivery: their lengths, what their reader finds, and one part more. Assumes nothing.
+use mathlib.Core.Path.{_≡_, refl, ap, ap₂, _∙_}
 use mathlib.Core.Bool.{true, false}
 use mathlib.Core.List.{List, [], _∷_, _++_, append-nil, append-assoc}
 use mathlib.Core.Logic.{⊎-elim}
@@ -7,21 +7,49 @@ use Prim.Native.Nat.{ℕ, zero, suc, _+_, _≤_, _<_}
 use native.Mathlib.Nat.{eq-or-lt-of-le}
 use native.Mathlib.Numerals.{add-one}
 use native.Mathlib.Omega.{arith}
-use lib.ListN.{length, drop, length-append, length-drop}
-use lib.Seq.{length-take-le}
-use Rattle.base.proofs.First.{either}
+use lib.ListN.{length, take, drop, length-append, length-drop}
+use lib.Seq.{length-take-le, take-at, drop-at}
+use Rattle.base.proofs.Truth.{either}
+use Rattle.wire.specs.Word.{le32, bytes32}
 use Rattle.wire.proofs.Word.{length-bytes32}
 use Rattle.store.specs.Entry.{offset, sheetLength}
 use Rattle.store.specs.Granted.{granted, grantedBelow}
 use Rattle.store.specs.Delivery.{sheetBytes, part, parts}
 use Rattle.store.proofs.Granted.{below-in, below-out}
+use Rattle.store.proofs.Head.{read-first, read-second, drop-head}
 
 -- a part is two words and the sheet's bytes
-pub length-part : (b : List ℕ) (s : ℕ) → offset b s + sheetLength b s ≤ length b → length (part b s) ≡ 8 + sheetLength b s
-unfolding part sheetBytes
-length-part b s h =
-    let room : sheetLength b s ≤ length (drop (offset b s) b) = simp length-drop (omega arith) in
-    simp (length-append, length-bytes32, length-take-le (sheetLength b s) (drop (offset b s) b) room) (omega arith)
+module _ (b : List ℕ) (s : ℕ) (within : offset b s + sheetLength b s ≤ length b) where
+  length-sheet : length (sheetBytes b s) ≡ sheetLength b s
+  unfolding sheetBytes
+  length-sheet = length-take-le (sheetLength b s) (drop (offset b s) b) (simp length-drop (omega arith))
+
+  pub length-part : length (part b s) ≡ 8 + sheetLength b s
+  unfolding part
+  length-part = simp (length-append, length-bytes32, length-sheet) (omega arith)
+
+  -- the reader finds its number, its length, its bytes and what follows it
+  module _ (rest : List ℕ) where
+    abbrev d : List ℕ
+    d = part b s ++ rest
+
+    headed : d ≡ bytes32 s ++ (bytes32 (sheetLength b s) ++ (sheetBytes b s ++ rest))
+    unfolding part
+    headed = simp append-assoc
+
+    pub part-number : le32 d 0 ≡ s
+    part-number = ap (λ (l : List ℕ). le32 l 0) headed ∙ read-first s (sheetLength b s) _
+
+    part-length : le32 d 4 ≡ sheetLength b s
+    part-length = ap (λ (l : List ℕ). le32 l 4) headed ∙ read-second s (sheetLength b s) _
+
+    pub part-bytes : take (le32 d 4) (drop 8 d) ≡ sheetBytes b s
+    part-bytes =
+        ap₂ take part-length (ap (drop 8) headed ∙ drop-head s (sheetLength b s) (sheetBytes b s ++ rest))
+        ∙ take-at (sheetBytes b s) rest (sheetLength b s) length-sheet
+
+    pub part-next : drop (8 + le32 d 4) d ≡ rest
+    part-next = ap (λ (k : ℕ). drop (8 + k) d) part-length ∙ drop-at (part b s) rest (8 + sheetLength b s) length-part
 
 pub parts-append : (b ss ts : List ℕ) → parts b (ss ++ ts) ≡ parts b ss ++ parts b ts
 unfolding parts

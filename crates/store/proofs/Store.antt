@@ -1,18 +1,14 @@
 -- What a store that is taken is like. Assumes nothing.
-use mathlib.Core.Path.{_≡_, refl}
-use mathlib.Core.Bool.{Bool, true, false, _&&_}
+use mathlib.Core.Path.{_≡_}
+use mathlib.Core.Bool.{true}
 use mathlib.Core.List.{List}
 use Prim.Native.Nat.{ℕ, _≤_}
 use native.Mathlib.Omega.{arith}
 use lib.ListN.{length}
 use borrow.Author.Tests.{leb-true, eqb-true}
+use Rattle.base.proofs.Truth.{both}
 use Rattle.rules.specs.Ranges.{sheets, storeBytes}
 use Rattle.store.specs.Store.{totalLength, sheetCount, bytesStart, goodStore}
-
--- a conjunction that holds, part by part
-pub both : (x y : Bool) → x && y ≡ true → (x ≡ true) × (y ≡ true)
-both true y e = (refl, e)
-both false y e = absurd (let z : _≡_ {A = ℕ} 0 1 = cc in omega arith)
 
 -- what refusal 31 leaves
 pub record Good (b : List ℕ) : Type 0 where

@@ -1,13 +1,12 @@
 -- The sheets that a group grants a model.
-use Prim.Native.Nat.{ℕ, zero, suc, _/_, _%_, _^_}
+use Prim.Native.Nat.{ℕ, zero, suc}
 use mathlib.Core.Bool.{Bool, cond}
 use mathlib.Core.List.{List, [], _∷_, _++_}
-use lib.Dec.{eqb}
-use lib.ListN.{getD}
+use Rattle.bits.specs.Bit.{bitIn}
 
 -- 256 words of 64 bits, one word a sheet, one bit a model.
-unfoldable pub granted : List ℕ → ℕ → ℕ → Bool
-granted grants m s = eqb (getD grants s 0 / 2 ^ m % 2) 1
+abbrev pub granted : List ℕ → ℕ → ℕ → Bool
+granted grants m s = bitIn grants s m
 
 -- the granted sheets below k, by rising number
 unfoldable pub grantedBelow : List ℕ → ℕ → ℕ → List ℕ

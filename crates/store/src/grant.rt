@@ -9,5 +9,5 @@ pub fn is_granted(grants: &[u64; 256], model: u32, sheet: u32) -> bool
     requires { ⌜ (model < models) × (sheet < sheets) ⌝ }
     ensures { λ r. ⌜ r ≡ granted (now (grants .entry)) model sheet ⌝ }
 {
-    (grants[sheet as usize] >> model) & 1 == 1
+    bits::has_bit(grants[sheet as usize], model)
 }

@@ -2,32 +2,18 @@
 use mathlib.Core.Path.{_≡_, refl, sym, ap, _∙_}
 use mathlib.Core.List.{List, [], _∷_, _++_}
 use mathlib.Core.Logic.{_⊎_, ⊎-elim}
-use Prim.Native.Nat.{ℕ, zero, suc, _+_, _*_, _/_, _%_, _^_, _≤_, _<_}
+use Prim.Native.Nat.{ℕ, _+_, _*_, _/_, _%_, _≤_, _<_}
 use native.Mathlib.Nat.{add-zero, add-assoc}
 use native.Mathlib.Omega.{arith}
 use lib.ListN.{length, take, drop}
 use lib.Seq.{getD-drop, getD-take}
-use Rattle.wire.specs.Word.{le32, bytes32, AllBytes}
+use Rattle.wire.specs.Word.{le32, bytes32}
 use Rattle.wire.specs.Put.{put32}
-use Rattle.wire.proofs.Put.{length-put, drop-put, put-before, put-behind}
+use Rattle.wire.proofs.Put.{drop-put, put-before, put-behind}
 
 pub length-bytes32 : (x : ℕ) → length (bytes32 x) ≡ 4
 unfolding bytes32
 length-bytes32 x = refl
-
--- bytes make a word
-pub le32-small : (b : List ℕ) (at : ℕ) → AllBytes b → le32 b at < 2 ^ 32
-unfolding le32
-le32-small b at h = omega (arith, h at, h (at + 1), h (at + 2), h (at + 3))
-
--- the bytes of a word are bytes
-pub bytes32-small : (x : ℕ) → x < 2 ^ 32 → AllBytes (bytes32 x)
-unfolding bytes32
-bytes32-small x h zero = omega arith
-bytes32-small x h (suc zero) = omega arith
-bytes32-small x h (suc (suc zero)) = omega arith
-bytes32-small x h (suc (suc (suc zero))) = omega arith
-bytes32-small x h (suc (suc (suc (suc i)))) = omega arith
 
 -- the word at a place is the first word from there on, and is within any front that holds its bytes
 pub le32-drop : (b : List ℕ) (n at : ℕ) → le32 (drop n b) at ≡ le32 b (n + at)
@@ -68,9 +54,6 @@ bytes-of-word p q r s rest hp hq hr hs =
 module _ (b : List ℕ) (at x : ℕ) (room : at + 4 ≤ length b) where
   fits : at + length (bytes32 x) ≤ length b
   fits = rw length-bytes32 room
-
-  pub length-put32 : length (put32 b at x) ≡ length b
-  length-put32 = length-put b at (bytes32 x) fits
 
   -- what was written is read
   pub read-written : le32 (put32 b at x) at ≡ x

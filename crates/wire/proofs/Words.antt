@@ -1,18 +1,24 @@
 -- Words and their bytes are inverse both ways; the words of bytes, one by one. Assumes nothing.
 use mathlib.Core.Path.{_≡_, refl, sym, ap, ap₂, _∙_}
 use mathlib.Core.List.{List, [], _∷_, _++_, append-assoc, append-nil}
-use Prim.Native.Nat.{ℕ, zero, suc, _+_, _*_, _≤_, _<_}
+use Prim.Native.Nat.{ℕ, zero, suc, _+_, _-_, _*_, _/_, _≤_, _<_}
 use native.Mathlib.Omega.{arith}
 use lib.ListN.{length, getD, take, drop, length-append}
-use lib.Seq.{drop-at, take-add}
+use lib.Seq.{drop-at, take-at, take-add}
 use Rattle.wire.specs.Word.{le32, bytes32, AllBytes}
-use Rattle.wire.specs.Words.{words, bytes}
+use Rattle.wire.specs.Words.{words, wordsIn, bytes}
 use Rattle.wire.proofs.Word.{length-bytes32, le32-drop, word-of-bytes, bytes-of-word}
 
 pub length-words : (b : List ℕ) (n : ℕ) → length (words b n) ≡ n
 unfolding words
 length-words b zero = refl
 length-words b (suc n) = ap suc (length-words (drop 4 b) n)
+
+-- the part of a list that holds the decoded words is those words
+pub lent : (b : List ℕ) (n : ℕ) (l rest : List ℕ) → n ≡ length b / 4 → l ≡ words b n ++ rest → take (n - 0) (drop 0 l) ≡ wordsIn b
+lent b n l rest e q =
+    let z : n - 0 ≡ n = omega arith in
+    rw (z, q) (take-at (words b n) rest n (length-words b n) ∙ ap (words b) e)
 
 pub length-bytes : (ws : List ℕ) → length (bytes ws) ≡ length ws * 4
 unfolding bytes

@@ -1,11 +1,12 @@
 -- The refusals are the tests that led to them; past them both strips are whole words, and few enough.
 use mathlib.Core.Path.{_≡_, refl, sym, ap, _∙_}
-use mathlib.Core.Bool.{Bool, true, false, not, _&&_, false≢true}
+use mathlib.Core.Bool.{true, not}
 use Prim.Native.Nat.{ℕ, _/_, _%_, _*_, _≤_}
 use native.Mathlib.Omega.{arith}
 use lib.Dec.{eqb, leb}
 use borrow.Author.Tests.{le-ltb, leb-true, not-false}
 use Rattle.base.proofs.Rules.{answers}
+use Rattle.base.proofs.Truth.{both}
 use Rattle.rules.specs.Ranges.{events}
 use Rattle.ferrulebee.specs.Judge.{wholeStrip, stripOf, judgedFrom}
 use Rattle.judge.specs.Judge.{judgedBy}
@@ -13,12 +14,8 @@ use borrow.Author.Needs.{needs}
 use Rattle.ferrulebee.proofs.judged.Statement.{statement}
 use Rattle.ferrulebee.proofs.judged.Tie as tie
 
-and-right : (a b : Bool) → a && b ≡ true → b ≡ true
-and-right true b e = e
-and-right false b e = absurd (false≢true e)
-
 short : (n : ℕ) → wholeStrip n ≡ true → n / 4 ≤ events
-short n e = let h = leb-true n (4 * events) (and-right (eqb (n % 4) 0) _ e) in omega arith
+short n e = let h = leb-true n (4 * events) (both (eqb (n % 4) 0) _ e .1) in omega arith
 
 returns : tie.Need-returns
 returns c = search answers

@@ -1,22 +1,12 @@
 -- The part of a list that holds the decoded words is those words.
-use mathlib.Core.Path.{_≡_, sym, ap, ap₂, _∙_}
-use mathlib.Core.List.{List, _++_}
-use Prim.Native.Nat.{ℕ, _-_, _/_}
-use native.Mathlib.Omega.{arith}
-use lib.ListN.{length, take, drop}
-use lib.Seq.{take-at}
-use Rattle.wire.specs.Words.{words}
-use Rattle.wire.proofs.Words.{length-words}
+use mathlib.Core.Path.{sym, ap₂, _∙_}
+use mathlib.Core.List.{List}
+use Prim.Native.Nat.{ℕ, _-_}
+use Rattle.wire.proofs.Words.{lent}
 use Rattle.judge.specs.Judge.{judgedBy}
-use Rattle.ferrulebee.specs.Judge.{stripOf}
 use borrow.Author.Needs.{needs}
 use Rattle.ferrulebee.proofs.on_words.Statement.{statement}
 use Rattle.ferrulebee.proofs.on_words.Tie as tie
-
-lent : (b : List ℕ) (n : ℕ) (l rest : List ℕ) → n ≡ length b / 4 → l ≡ words b n ++ rest → take (n - 0) (drop 0 l) ≡ stripOf b
-lent b n l rest e q =
-    let z : n - 0 ≡ n = omega arith in
-    rw (z, q) (take-at (words b n) rest n (length-words b n) ∙ ap (words b) e)
 
 slice-aggregate-decode : tie.Need-slice-aggregate-decode
 slice-aggregate-decode c = search needs

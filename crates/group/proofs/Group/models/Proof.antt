@@ -1,8 +1,8 @@
 -- `group::Group::models` meets its contract.
 use borrow.Author.Tests.{lt-leb}
 use Rattle.base.proofs.Rules.{answers}
+use Rattle.bits.specs.Bit.{bitIn}
 use Rattle.group.specs.Count.{countAnswer, modelsGranted}
-use Rattle.group.specs.Read.{granted}
 use borrow.Author.Needs.{needs}
 use Rattle.group.proofs.Group.models.Statement.{statement}
 use Rattle.group.proofs.Group.models.Tie as tie
@@ -21,7 +21,7 @@ count-requires : tie.Need-count-requires
 count-requires c κs = search needs
 
 returns-2 : tie.Need-returns-2
-unfolding countAnswer modelsGranted granted
+unfolding countAnswer modelsGranted bitIn
 returns-2 c = simp (lt-leb _ _ (c .before .before .if1 .left), c .count .ensures)
 
 pub models-spec : {M : Type 1} → statement M

@@ -2,7 +2,8 @@
 use mathlib.Core.Path.{_∙_, sym}
 use borrow.Author.Tests.{lt-leb}
 use Rattle.base.proofs.Rules.{answers}
-use Rattle.group.specs.Read.{granted, readRefusal, readAnswer}
+use Rattle.bits.specs.Bit.{bitIn}
+use Rattle.group.specs.Read.{readRefusal, readAnswer}
 use borrow.Author.Needs.{needs}
 use Rattle.group.proofs.Group.read.Statement.{statement}
 use Rattle.group.proofs.Group.read.Tie as tie
@@ -25,7 +26,7 @@ has-bit-requires : tie.Need-has-bit-requires
 has-bit-requires c κs = search needs
 
 returns-3 : tie.Need-returns-3
-unfolding readAnswer readRefusal granted
+unfolding readAnswer readRefusal bitIn
 returns-3 c =
     let at = c .before .before .before in
     let m = lt-leb _ _ (at .before .if1 .left) in
@@ -33,7 +34,7 @@ returns-3 c =
     record { answer = simp (m, s, sym (c .before .has-bit .ensures) ∙ c .if3 .taken); number = simp (m, s) }
 
 returns-4 : tie.Need-returns-4
-unfolding readAnswer readRefusal granted
+unfolding readAnswer readRefusal bitIn
 returns-4 c =
     let at = c .before .before .before in
     let m = lt-leb _ _ (at .before .if1 .left) in

@@ -4,16 +4,16 @@ use mathlib.Core.List.{List, [], _∷_}
 use mathlib.Core.Logic.{⊎-elim}
 use Prim.Native.Nat.{ℕ, _-_}
 use native.Mathlib.Omega.{arith}
-use native.Mathlib.Nat.{le-refl}
-use lib.ListN.{length, take, drop, length-drop}
-use lib.Seq.{take-all}
+use lib.ListN.{drop}
 use types.Run.{OneOf}
 use denote.Ref.{RefT}
 use denote.Enum.Declared.{tagOf}
+use Rattle.base.specs.Part.{wordAt}
+use Rattle.base.proofs.Part.{tail}
 use Rattle.formula.proofs.Verdict as verdict
 use Rattle.formula.specs.declared.Verdict.{Verdict}
 use Rattle.formula.specs.declared.Verdict.the-variants.{Granted, Denied, Refused}
-use Rattle.judge.specs.Evidence.{placeOf, evidenceOf, startOf, wordAt}
+use Rattle.judge.specs.Evidence.{placeOf, evidenceOf, startOf}
 use borrow.Author.Needs.{needs}
 use Rattle.judge.proofs.evidence.evidence.Statement.{statement}
 use Rattle.judge.proofs.evidence.evidence.Tie as tie
@@ -24,10 +24,6 @@ nothing : (v : Verdict) (m s : RefT (List ℕ)) → OneOf (1 ∷ 2 ∷ []) (tagO
 nothing (Granted x) m s h = absurd (⊎-elim (λ e. omega arith) (λ e. omega arith) h)
 nothing (Denied cause) m s h = (refl, refl)
 nothing (Refused refusal place) m s h = (refl, refl)
-
--- a part that starts at a place and runs to the end is the tail from there
-tail : (s : List ℕ) (i j : ℕ) → i ≡ j → take (length s - i) (drop i s) ≡ drop j s
-tail s i j e = take-all (length s - i) (drop i s) (simp length-drop (le-refl _)) ∙ ap (λ (k : ℕ). drop k s) e
 
 judge-requires : tie.Need-judge-requires
 judge-requires c κs = search needs
@@ -90,14 +86,14 @@ returns-2 c =
     let b = c .before .before .before .before .before .before in
     let a = b .before .before .before .before .before .args in
     rw (← b .before .before .judge .ensures, b .moment .given .1, c .before .before .before .moment2 .given .1)
-    (tail (a .s .now) _ _ (c .before .place-of .ensures .0), ap (wordAt (a .s)) (c .before .place-of .ensures .0))
+    (tail (a .s .now) _ ∙ ap (λ (k : ℕ). drop k (a .s .now)) (c .before .place-of .ensures .0), ap (wordAt (a .s)) (c .before .place-of .ensures .0))
 
 returns-3 : tie.Need-returns-3
 returns-3 c =
     let b = c .before .before .before .before .before .before in
     let a = b .before .before .before .before .before .args in
     rw (← b .before .before .judge .ensures, b .moment .given .1, c .before .before .before .moment3 .given .1)
-    (tail (a .m .now) _ _ (c .before .place-of2 .ensures .0), ap (wordAt (a .m)) (c .before .place-of2 .ensures .0))
+    (tail (a .m .now) _ ∙ ap (λ (k : ℕ). drop k (a .m .now)) (c .before .place-of2 .ensures .0), ap (wordAt (a .m)) (c .before .place-of2 .ensures .0))
 
 pub evidence-spec : {M : Type 1} → statement M
 evidence-spec =
