@@ -10,22 +10,16 @@ use Rattle.wire.proofs.Words.{length-words}
 use Rattle.judge.specs.Judge.{judgedBy}
 use Rattle.ferrulebee.specs.Judge.{stripOf}
 use borrow.Author.Needs.{needs}
-use Rattle.ferrulebee.proofs.on_words.Statement.{statement}
-use Rattle.ferrulebee.proofs.on_words.Tie as tie
+use Rattle.ferrulebee.proofs.in_lists.Statement.{statement}
+use Rattle.ferrulebee.proofs.in_lists.Tie as tie
 
 lent : (b : List ℕ) (n : ℕ) (l rest : List ℕ) → n ≡ length b / 4 → l ≡ words b n ++ rest → take (n - 0) (drop 0 l) ≡ stripOf b
 lent b n l rest e q =
     let z : n - 0 ≡ n = omega arith in
     rw (z, q) (take-at (words b n) rest n (length-words b n) ∙ ap (words b) e)
 
-slice-aggregate-decode : tie.Need-slice-aggregate-decode
-slice-aggregate-decode c = search needs
-
 decode-requires : tie.Need-decode-requires
 decode-requires c κs = search needs
-
-slice-aggregate-decode-2 : tie.Need-slice-aggregate-decode-2
-slice-aggregate-decode-2 c = search needs
 
 decode-requires-2 : tie.Need-decode-requires-2
 decode-requires-2 c κs = search needs
@@ -51,23 +45,27 @@ part-b-end c = search needs
 judge-requires : tie.Need-judge-requires
 judge-requires c κs = search needs
 
+same-length : tie.Need-same-length
+same-length c = search needs
+
+same-length-2 : tie.Need-same-length-2
+same-length-2 c = search needs
+
 returns : tie.Need-returns
 returns c =
-    let d = c .before .before .before .before .before .before in
-    let e = d .before .before .before in
-    let a = e .before .before .before .before .args in
+    let d = c .before .before .before .before .before .before .before in
+    let e = d .before .before .before .before in
+    let a = e .before .before .before .before .before .before .args in
     c .judge .ensures
     ∙ ap₂ (λ (x y : List ℕ). judgedBy x y (a .now))
     (lent (a .m .now) (e .decode .result) _ _ (e .decode .ensures .0) (e .decode .ensures .1))
     (lent (a .s .now) (d .decode2 .result) _ _ (d .decode2 .ensures .0) (d .decode2 .ensures .1))
 
-pub on-words-spec : {M : Type 1} → statement M
-on-words-spec =
+pub in-lists-spec : {M : Type 1} → statement M
+in-lists-spec =
     tie.close
     (tie.spec
-    slice-aggregate-decode
     decode-requires
-    slice-aggregate-decode-2
     decode-requires-2
     sub-a
     part-a-start
@@ -76,4 +74,6 @@ on-words-spec =
     part-b-start
     part-b-end
     judge-requires
+    same-length
+    same-length-2
     returns)
