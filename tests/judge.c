@@ -143,6 +143,14 @@ static void limits(void)
     texts("SJ1000000", "SA1000000", LAST, 101, LAST);
     texts("SJ1000000", "SA999999", LAST, 103, 0);
 
+    /* around 64 words, up to which the judge works in short lists */
+    for (uint32_t length = 63; length <= 65; length++) {
+        long_strip(&m, length, FERRULEBEE_SJ, FERRULEBEE_LL);
+        long_strip(&s, length, FERRULEBEE_LA, FERRULEBEE_LR);
+        expect("as many words each", &m, &s, LAST, 101, (length - 1) / 2 * 2 + 1);
+        expect("the last of them after now", &m, &s, length - 1, 13, length - 1);
+        expect("no model's words", &none, &s, LAST, 103, 0);
+    }
     long_strip(&m, FERRULEBEE_EVENTS, FERRULEBEE_SJ, FERRULEBEE_LL);
     long_strip(&s, FERRULEBEE_EVENTS, FERRULEBEE_LA, FERRULEBEE_LR);
     expect("4,096 words each", &m, &s, LAST, 101, FERRULEBEE_EVENTS - 1);

@@ -2,3 +2,4 @@ pub mod Delivered
 pub mod Judge
 pub mod Part
 pub mod Read
+pub mod Short

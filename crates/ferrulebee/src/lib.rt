@@ -11,8 +11,12 @@ ghost use lib.ListN.{length};
 ghost use Rattle.formula.specs.Answer.{numberOf, valueOf};
 ghost use Rattle.rules.specs.Ranges.{events};
 ghost use Rattle.judge.specs.Judge.{judgedBy};
+ghost use Rattle.ferrulebee.specs.Short.{short};
 ghost use Rattle.ferrulebee.specs.Judge.{wholeStrip, stripOf, packed, judgedFrom};
 use formula::Verdict;
+
+// Strips of at most so many words are judged in lists of this length: to clear lists for the longest takes longer than to judge a short strip.
+const SHORT: usize = 64;
 
 // A strip's bytes are whole words, and not too many.
 fn whole(length: usize) -> bool
@@ -49,15 +53,42 @@ fn judged(m: &[u8], s: &[u8], now: u32) -> Verdict
     on_words(m, s, now)
 }
 
-// The strips' words, one strip after the other, and the judge on them.
 fn on_words(m: &[u8], s: &[u8], now: u32) -> Verdict
+    requires { ⌜ (length (m .now) / 4 ≤ events) × (length (s .now) / 4 ≤ events) ⌝ }
+    ensures { λ r. ⌜ r ≡ judgedBy (stripOf (m .entry .now)) (stripOf (s .entry .now)) now ⌝ }
+{
+    if m.len() / 4 <= SHORT && s.len() / 4 <= SHORT {
+        in_short_lists(m, s, now)
+    } else {
+        in_long_lists(m, s, now)
+    }
+}
+
+fn in_short_lists(m: &[u8], s: &[u8], now: u32) -> Verdict
+    requires { ⌜ (length (m .now) / 4 ≤ short) × (length (s .now) / 4 ≤ short) ⌝ }
+    ensures { λ r. ⌜ r ≡ judgedBy (stripOf (m .entry .now)) (stripOf (s .entry .now)) now ⌝ }
+{
+    let mut model = [0u32; SHORT];
+    let mut sheet = [0u32; SHORT];
+    in_lists(m, s, now, &mut model, &mut sheet)
+}
+
+fn in_long_lists(m: &[u8], s: &[u8], now: u32) -> Verdict
     requires { ⌜ (length (m .now) / 4 ≤ events) × (length (s .now) / 4 ≤ events) ⌝ }
     ensures { λ r. ⌜ r ≡ judgedBy (stripOf (m .entry .now)) (stripOf (s .entry .now)) now ⌝ }
 {
     let mut model = [0u32; rules::EVENTS];
     let mut sheet = [0u32; rules::EVENTS];
-    let n = wire::decode(m, &mut model);
-    let k = wire::decode(s, &mut sheet);
+    in_lists(m, s, now, &mut model, &mut sheet)
+}
+
+// The strips' words, one strip after the other, each to the front of its lent list, and the judge on them.
+fn in_lists(m: &[u8], s: &[u8], now: u32, model: &mut [u32], sheet: &mut [u32]) -> Verdict
+    requires { ⌜ (length (m .now) / 4 ≤ length (model .now)) × (length (s .now) / 4 ≤ length (sheet .now)) ⌝ }
+    ensures { λ r. ⌜ r ≡ judgedBy (stripOf (m .entry .now)) (stripOf (s .entry .now)) now ⌝ }
+{
+    let n = wire::decode(m, model);
+    let k = wire::decode(s, sheet);
     let a = &model[0..n];
     let b = &sheet[0..k];
     judge::judge(a, b, now)

@@ -1,14 +1,13 @@
 -- One pass over two strips is the scan over all ticks, since ticks without events move nothing. Assumes nothing.
 use mathlib.Core.Path.{_≡_, refl, sym, ap, ap₂, _∙_}
-use mathlib.Core.Bool.{Bool, true, false, cond}
-use mathlib.Core.Logic.{_⊎_, inl, inr, ⊎-elim}
+use mathlib.Core.Logic.{⊎-elim}
 use mathlib.Core.List.{List}
-use Prim.Native.Nat.{ℕ, zero, suc, _+_, _-_, _≤_, _<_}
+use Prim.Native.Nat.{ℕ, zero, suc, _+_, _≤_, _<_}
 use native.Mathlib.Omega.{arith}
 use native.Mathlib.Nat.{eq-or-lt-of-le}
-use lib.Dec.{eqb, ltb}
+use lib.Dec.{ltb}
 use lib.ListN.{length, getD}
-use borrow.Author.Tests.{lt-ltb, le-ltb, ltb-true, ltb-false, eq-eqb, ne-eqb, eqb-true, eqb-false}
+use borrow.Author.Tests.{lt-ltb, le-ltb, ltb-true, ltb-false}
 use Rattle.base.proofs.Truth.{either}
 use Rattle.rules.specs.Kinds.{quiet}
 use Rattle.event.specs.Word.{kindOf}
@@ -17,7 +16,7 @@ use Rattle.strip.specs.History.{historyOf}
 use Rattle.strip.proofs.Places.{tickAt, Rising, UpTo, After, after-start, quiet-till, history-here, after-hit, after-miss}
 use Rattle.judge.specs.declared.scan.Seen.{Seen}
 use Rattle.judge.specs.declared.scan.Head.{Head}
-use Rattle.judge.specs.Scan.{start, stepOf, scanTo, never, headOf, kindIn}
+use Rattle.judge.specs.Scan.{start, stepOf, scanTo, never, headOf}
 
 -- ---- the scan over ticks
 module _ (model sheet : History) where
@@ -44,8 +43,11 @@ module _ (model sheet : History) where
   jump last (suc t) h g = next t ∙ ap (λ (x : Seen). stepOf x (suc t) (model (suc t)) (sheet (suc t))) (over-gap last t (omega arith) g)
 
 -- ---- the next event of one strip
-abbrev place : List ℕ → ℕ → ℕ → ℕ
-place s i t = cond (eqb (headOf s i .tick) t) (i + 1) i
+-- what a strip has at tick t, the next after `last` with an event: the history's kind, the place after t, and nothing in between
+record Turn (s : List ℕ) (last t k after-t : ℕ) : Type 0 where
+  kind : historyOf s t ≡ k
+  after : After t s after-t
+  between : (u : ℕ) → last < u → u < t → historyOf s u ≡ quiet
 
 module _ (s : List ℕ) (r : Rising s) (last i : ℕ) (a : After last s i) (fits : tickAt s i < never) where
   -- where the strip has a next event, and where it has none
@@ -55,76 +57,61 @@ module _ (s : List ℕ) (r : Rising s) (last i : ℕ) (a : After last s i) (fits
   out : length s ≤ i → headOf s i ≡ record { tick = never; kind = quiet }
   out h = simp (le-ltb _ _ h)
 
-  pub head-later : last < never → last < headOf s i .tick
-  head-later b = ⊎-elim
-      (λ y. rw (within (ltb-true i (length s) y)) (a .ahead i (omega arith) (ltb-true i (length s) y)))
-      (λ z. rw (out (ltb-false i (length s) z)) b)
+  -- a next event's tick is below `never`, and only an event's is
+  head-low : i < length s → headOf s i .tick < never
+  head-low h = rw (within h) fits
+
+  head-in : headOf s i .tick < never → i < length s
+  head-in h = ⊎-elim
+      (λ y. ltb-true i (length s) y)
+      (λ z. let l : never < never = rw (out (ltb-false i (length s) z)) at h in absurd (omega arith))
       (either (ltb i (length s)))
 
-  -- what the code makes of the next event at tick t: the history's kind, the place after t, and nothing in between
-  pub record Turn (t : ℕ) : Type 0 where
-    pub kind : kindIn (headOf s i) t ≡ historyOf s t
-    pub after : After t s (place s i t)
-    pub between : (u : ℕ) → last < u → u < t → historyOf s u ≡ quiet
-
-  pub turn : (t : ℕ) → last < t → t ≤ headOf s i .tick → t < never → Turn t
-  turn t l h b = ⊎-elim
-      (λ y.
-      let in-range = ltb-true i (length s) y in
-      let e = within in-range in
-      let w : t ≤ tickAt s i = rw e at h in
-      ⊎-elim
-      (λ q.
-      record {
-        kind = rw (e, eq-eqb (tickAt s i) t (sym q)) (rw q (sym (history-here s r last i a in-range)));
-        after = rw (e, eq-eqb (tickAt s i) t (sym q)) (after-hit s r last i a t in-range (sym q));
-        between = λ u x z. quiet-till s r last i a u x (λ n. omega arith);
-      })
-      (λ q.
-      let ne = ne-eqb (tickAt s i) t (λ z. omega arith) in
-      record {
-        kind = rw (e, ne) (sym (quiet-till s r last i a t l (λ n. q)));
-        after = rw (e, ne) (after-miss s r last i a t l (λ n. q));
-        between = λ u x z. quiet-till s r last i a u x (λ n. omega arith);
-      })
-      (eq-or-lt-of-le w))
-      (λ z.
-      let past = ltb-false i (length s) z in
-      let e = out past in
-      let ne = ne-eqb never t (λ q. omega arith) in
-      record {
-        kind = rw (e, ne) (sym (quiet-till s r last i a t l (λ n. absurd (omega arith))));
-        after = rw (e, ne) (after-miss s r last i a t l (λ n. absurd (omega arith)));
-        between = λ u x y. quiet-till s r last i a u x (λ n. absurd (omega arith));
-      })
+  head-most : headOf s i .tick ≤ never
+  head-most = ⊎-elim
+      (λ y. rw (within (ltb-true i (length s) y)) (omega arith))
+      (λ z. rw (out (ltb-false i (length s) z)) (omega arith))
       (either (ltb i (length s)))
+
+  head-upto : headOf s i .tick < never → (n : ℕ) → UpTo n s → headOf s i .tick ≤ n
+  head-upto h n u = rw (within (head-in h)) (u i (head-in h))
+
+  head-later : headOf s i .tick < never → last < headOf s i .tick
+  head-later h = rw (within (head-in h)) (a .ahead i (omega arith) (head-in h))
+
+  -- the strip's next event is taken, or a tick before it
+  hit : headOf s i .tick < never → Turn s last (headOf s i .tick) (headOf s i .kind) (i + 1)
+  hit h =
+      let l = head-in h in
+      rw (within l) (record {
+        kind = history-here s r last i a l;
+        after = after-hit s r last i a (tickAt s i) l refl;
+        between = λ u x z. quiet-till s r last i a u x (λ n. z);
+      })
+
+  miss : (t : ℕ) → last < t → t < headOf s i .tick → Turn s last t quiet i
+  miss t l h =
+      let ahead : i < length s → t < tickAt s i = λ n. (let w : t < tickAt s i = rw (within n) at h in w) in
+      record {
+        kind = quiet-till s r last i a t l ahead;
+        after = after-miss s r last i a t l ahead;
+        between = λ u x z. quiet-till s r last i a u x (λ n. omega (arith, ahead n));
+      }
 
 -- ---- both strips
 -- the pass has taken the events up to tick `last`
 pub record Passed (m s : List ℕ) (i j : ℕ) (seen : Seen) : Type 0 where
   pub last : ℕ
-  pub low : last < never
   pub upto : (n : ℕ) → UpTo n m → UpTo n s → last ≤ n
   pub model : After last m i
   pub sheet : After last s j
   pub so-far : seen ≡ scanTo (historyOf m) (historyOf s) last
-
-abbrev pub soonest : ℕ → ℕ → ℕ
-soonest a b = cond (ltb b a) b a
-
--- the sooner of two ticks is one of them and above neither
-sooner : (a b : ℕ) → (soonest a b ≤ a) × (soonest a b ≤ b) × ((soonest a b ≡ a) ⊎ (soonest a b ≡ b))
-sooner a b = ⊎-elim
-    (λ y. rw y (let h = ltb-true b a y in (omega arith, omega arith, inr refl)))
-    (λ z. rw z (let h = ltb-false b a z in (omega arith, omega arith, inl refl)))
-    (either (ltb b a))
 
 module _ (m s : List ℕ) (rm : Rising m) (rs : Rising s) where
   pub pass-start : Passed m s 0 0 start
   unfolding scanTo
   pass-start = record {
     last = 0;
-    low = omega arith;
     upto = λ n a b. omega arith;
     model = after-start m rm;
     sheet = after-start s rs;
@@ -140,77 +127,47 @@ module _ (m s : List ℕ) (rm : Rising m) (rs : Rising s) where
         p .so-far ∙ sym (over-gap (historyOf m) (historyOf s) (p .last) n (p .upto n um us)
         (λ u a b. (quiet-till m rm (p .last) i (p .model) u a (λ x. absurd (omega arith)), quiet-till s rs (p .last) j (p .sheet) u a (λ x. absurd (omega arith)))))
 
-    module _ (fm : tickAt m i < never) (fs : tickAt s j < never) (left : i + j < length m + length s) where
-      abbrev a : Head
-      a = headOf m i
+    -- the events of tick t are taken
+    taken : (t k l i′ j′ : ℕ) → p .last < t → ((n : ℕ) → UpTo n m → UpTo n s → t ≤ n) → Turn m (p .last) t k i′ → Turn s (p .last) t l j′
+        → Passed m s i′ j′ (stepOf seen t k l)
+    taken t k l i′ j′ later upto tm ts = record {
+      last = t;
+      upto = upto;
+      model = tm .after;
+      sheet = ts .after;
+      so-far =
+          ap (λ (x : Seen). stepOf x t k l) (p .so-far)
+          ∙ ap₂ (stepOf (scanTo (historyOf m) (historyOf s) (p .last)) t) (sym (tm .kind)) (sym (ts .kind))
+          ∙ sym (jump (historyOf m) (historyOf s) (p .last) t later (λ u x y. (tm .between u x y, ts .between u x y)));
+    }
 
-      abbrev b : Head
-      b = headOf s j
+    module _ (fm : tickAt m i < never) (fs : tickAt s j < never) (a b : Head) (ea : a ≡ headOf m i) (eb : b ≡ headOf s j) where
+      -- the model's next event comes first, or the sheet's, or both come in one tick
+      pub model-first : a .tick < b .tick → Passed m s (i + 1) j (stepOf seen (a .tick) (a .kind) quiet)
+      model-first h =
+          let l : headOf m i .tick < headOf s j .tick = rw (ea, eb) at h in
+          let low : headOf m i .tick < never = omega (arith, head-most s rs (p .last) j (p .sheet) fs) in
+          let later = head-later m rm (p .last) i (p .model) fm low in
+          rw ea (taken _ _ _ _ _ later (λ n um us. head-upto m rm (p .last) i (p .model) fm low n um)
+          (hit m rm (p .last) i (p .model) fm low) (miss s rs (p .last) j (p .sheet) fs _ later l))
 
-      abbrev t : ℕ
-      t = soonest (a .tick) (b .tick)
+      pub sheet-first : b .tick < a .tick → Passed m s i (j + 1) (stepOf seen (b .tick) quiet (b .kind))
+      sheet-first h =
+          let l : headOf s j .tick < headOf m i .tick = rw (ea, eb) at h in
+          let low : headOf s j .tick < never = omega (arith, head-most m rm (p .last) i (p .model) fm) in
+          let later = head-later s rs (p .last) j (p .sheet) fs low in
+          rw eb (taken _ _ _ _ _ later (λ n um us. head-upto s rs (p .last) j (p .sheet) fs low n us)
+          (miss m rm (p .last) i (p .model) fm _ later l) (hit s rs (p .last) j (p .sheet) fs low))
 
-      later : p .last < t
-      later =
-          let x = head-later m rm (p .last) i (p .model) fm (p .low) in
-          let y = head-later s rs (p .last) j (p .sheet) fs (p .low) in
-          ⊎-elim (λ e. rw e x) (λ e. rw e y) (sooner (a .tick) (b .tick) .2)
-
-      -- one of the two strips has an event left, and t is not after it
-      some-left : (i < length m) ⊎ (j < length s)
-      some-left = ⊎-elim (λ y. inl (ltb-true i (length m) y)) (λ z. inr (let h = ltb-false i (length m) z in let k = p .model .inside in omega arith)) (either (ltb i (length m)))
-
-      head-in : (x : List ℕ) (k : ℕ) → k < length x → headOf x k .tick ≡ tickAt x k
-      head-in x k h = simp (lt-ltb k (length x) h)
-
-      head-out : (x : List ℕ) (k : ℕ) → length x ≤ k → headOf x k .tick ≡ never
-      head-out x k h = simp (le-ltb k (length x) h)
-
-      bounded : t < never
-      bounded = ⊎-elim
-          (λ h. omega (arith, sooner (a .tick) (b .tick) .0, head-in m i h))
-          (λ h. omega (arith, sooner (a .tick) (b .tick) .1, head-in s j h))
-          some-left
-
-      tm : Turn m rm (p .last) i (p .model) fm t
-      tm = turn m rm (p .last) i (p .model) fm t later (sooner (a .tick) (b .tick) .0) bounded
-
-      ts : Turn s rs (p .last) j (p .sheet) fs t
-      ts = turn s rs (p .last) j (p .sheet) fs t later (sooner (a .tick) (b .tick) .1) bounded
-
-      -- a tick below `never` that is a strip's next is the tick of one of its words
-      real : (x : List ℕ) (k n : ℕ) → UpTo n x → t ≡ headOf x k .tick → t ≤ n
-      real x k n u e = ⊎-elim
-          (λ y. omega (arith, u k (ltb-true k (length x) y), head-in x k (ltb-true k (length x) y)))
-          (λ z. absurd (omega (arith, bounded, head-out x k (ltb-false k (length x) z))))
-          (either (ltb k (length x)))
-
-      pass-on : Passed m s (place m i t) (place s j t) (stepOf seen t (kindIn a t) (kindIn b t))
-      pass-on = record {
-        last = t;
-        low = bounded;
-        upto = λ n um us. ⊎-elim (real m i n um) (real s j n us) (sooner (a .tick) (b .tick) .2);
-        model = tm .after;
-        sheet = ts .after;
-        so-far =
-            ap (λ (x : Seen). stepOf x t (kindIn a t) (kindIn b t)) (p .so-far)
-            ∙ ap₂ (stepOf (scanTo (historyOf m) (historyOf s) (p .last)) t) (tm .kind) (ts .kind)
-            ∙ sym (jump (historyOf m) (historyOf s) (p .last) t later (λ u x y. (tm .between u x y, ts .between u x y)));
-      }
-
-      -- the pass goes on: one of the places moves
-      pass-less : i + j < place m i t + place s j t
-      pass-less = ⊎-elim
-          (λ e. rw (eq-eqb (a .tick) t (sym e)) (omega (arith, moves (b .tick) t j)))
-          (λ e. rw (eq-eqb (b .tick) t (sym e)) (omega (arith, moves (a .tick) t i)))
-          (sooner (a .tick) (b .tick) .2)
-        where
-          moves : (x y k : ℕ) → k ≤ cond (eqb x y) (k + 1) k
-          moves x y k = ⊎-elim (λ h. rw h (omega arith)) (λ h. rw h (omega arith)) (either (eqb x y))
-
-      -- one turn of the loop, by what its calls promised
-      pub pass-turn : (a′ b′ : Head) (t′ k l : ℕ) (seen′ : Seen) (i′ j′ : ℕ) → a′ ≡ headOf m i → b′ ≡ headOf s j → t′ ≡ soonest (a′ .tick) (b′ .tick)
-          → k ≡ kindIn a′ t′ → l ≡ kindIn b′ t′ → seen′ ≡ stepOf seen t′ k l
-          → i′ ≡ cond (eqb (a′ .tick) t′) (i + 1) i → j′ ≡ cond (eqb (b′ .tick) t′) (j + 1) j
-          → Passed m s i′ j′ seen′ × (i + j < i′ + j′)
-      pass-turn a′ b′ t′ k l seen′ i′ j′ ea eb et ek el es ei ej = rw (es, ek, el, ei, ej, et, ea, eb) (pass-on, pass-less)
+      pub both-first : b .tick ≤ a .tick → a .tick ≤ b .tick → i + j < length m + length s → Passed m s (i + 1) (j + 1) (stepOf seen (a .tick) (a .kind) (b .kind))
+      both-first h g left =
+          let x : headOf s j .tick ≤ headOf m i .tick = rw (ea, eb) at h in
+          let y : headOf m i .tick ≤ headOf s j .tick = rw (ea, eb) at g in
+          let same : headOf s j .tick ≡ headOf m i .tick = omega arith in
+          let low : headOf m i .tick < never = ⊎-elim
+          (λ v. head-low m rm (p .last) i (p .model) fm (ltb-true i (length m) v))
+          (λ w. omega (arith, p .model .inside, ltb-false i (length m) w, head-low s rs (p .last) j (p .sheet) fs (omega (arith, p .model .inside, ltb-false i (length m) w))))
+          (either (ltb i (length m))) in
+          let later = head-later m rm (p .last) i (p .model) fm low in
+          rw (ea, eb) (taken _ _ _ _ _ later (λ n um us. head-upto m rm (p .last) i (p .model) fm low n um)
+          (hit m rm (p .last) i (p .model) fm low) (rw same at (hit s rs (p .last) j (p .sheet) fs (omega arith))))

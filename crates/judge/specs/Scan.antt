@@ -61,6 +61,3 @@ never = 1048576
 
 abbrev pub headOf : List ℕ → ℕ → Head
 headOf s i = cond (ltb i (length s)) (record { tick = tickOf (getD s i 0); kind = kindOf (getD s i 0) }) (record { tick = never; kind = quiet })
-
-abbrev pub kindIn : Head → ℕ → ℕ
-kindIn h t = cond (eqb (h .tick) t) (h .kind) quiet

@@ -1,14 +1,11 @@
 // One pass over both strips in tick order. Ticks without events cost nothing: they move nothing.
 ghost use mathlib.Core.Path.{_≡_};
-ghost use Prim.Native.Nat.{ℕ, _+_, _≤_, _<_};
-ghost use mathlib.Core.Bool.{cond};
-ghost use lib.Dec.{ltb, eqb};
+ghost use Prim.Native.Nat.{ℕ, _≤_};
 ghost use lib.ListN.{length};
-ghost use Rattle.rules.specs.Kinds.{quiet, isJoin, isLeave, isAdd, isRemove};
 ghost use Rattle.rules.specs.Ranges.{events};
 ghost use Rattle.strip.specs.History.{historyOf};
 ghost use Rattle.strip.proofs.Places.{Rising, UpTo};
-ghost use Rattle.judge.specs.Scan.{toldBy, endedBy, standsAfter, start, stepOf, scanTo, headOf, kindIn};
+ghost use Rattle.judge.specs.Scan.{toldBy, endedBy, standsAfter, stepOf, scanTo, headOf};
 use formula::Cause;
 use formula::Moment;
 use formula::Verdict;
@@ -119,27 +116,6 @@ fn next_event(s: &[u32], i: usize) -> Head
     }
 }
 
-fn earlier(a: u32, b: u32) -> u32
-    ensures { λ r. ⌜ r ≡ cond (ltb b a) b a ⌝ }
-{
-    if b < a { b } else { a }
-}
-
-// The carrier's kind in a tick.
-fn kind_in(h: Head, tick: u32) -> u32
-    ensures { λ r. ⌜ r ≡ kindIn h tick ⌝ }
-{
-    if h.tick == tick { h.kind } else { rules::QUIET }
-}
-
-// The place after a tick.
-fn beyond(i: usize, h: Head, tick: u32) -> usize
-    requires { ⌜ i ≤ events ⌝ }
-    ensures { λ r. ⌜ r ≡ cond (eqb (h .tick) tick) (i + 1) i ⌝ }
-{
-    if h.tick == tick { i + 1 } else { i }
-}
-
 pub fn scan(m: &[u32], s: &[u32]) -> Seen
     requires { ⌜ Rising (m .now) × Rising (s .now) × (length (m .now) ≤ events) × (length (s .now) ≤ events) ⌝ }
     ensures { λ r. ⌜ ((n : ℕ) → UpTo n (m .entry .now) → UpTo n (s .entry .now) → r ≡ scanTo (historyOf (m .entry .now)) (historyOf (s .entry .now)) n) ⌝ }
@@ -151,13 +127,25 @@ pub fn scan(m: &[u32], s: &[u32]) -> Seen
     };
     let mut i: usize = 0;
     let mut j: usize = 0;
+    // The heads stand in variables: a turn reads only the strip whose event it takes.
+    let mut a = next_event(m, 0);
+    let mut b = next_event(s, 0);
     while i + j < m.len() + s.len() {
-        let a = next_event(m, i);
-        let b = next_event(s, j);
-        let tick = earlier(a.tick, b.tick);
-        seen = step(seen, tick, kind_in(a, tick), kind_in(b, tick));
-        i = beyond(i, a, tick);
-        j = beyond(j, b, tick);
+        if a.tick < b.tick {
+            seen = step(seen, a.tick, a.kind, rules::QUIET);
+            i += 1;
+            a = next_event(m, i);
+        } else if b.tick < a.tick {
+            seen = step(seen, b.tick, rules::QUIET, b.kind);
+            j += 1;
+            b = next_event(s, j);
+        } else {
+            seen = step(seen, a.tick, a.kind, b.kind);
+            i += 1;
+            j += 1;
+            a = next_event(m, i);
+            b = next_event(s, j);
+        }
     }
     seen
 }

@@ -1,26 +1,20 @@
--- The loop has taken the events up to some tick; a turn takes those of the next.
-use borrow.Author.Needs.{needs}
-use Prim.Native.Nat.{ℕ, _+_, _-_, _<_}
+-- The loop has taken the events up to some tick and knows the next of each strip; a turn takes those of the next tick.
+use mathlib.Core.Path.{_≡_}
+use Prim.Native.Nat.{_+_, _-_, _<_}
 use native.Mathlib.Omega.{arith}
 use lib.ListN.{length}
-use Rattle.judge.proofs.Pass.{Passed, pass-start, pass-turn, pass-end}
+use Rattle.strip.proofs.Places.{tickAt}
+use Rattle.judge.specs.Scan.{never, headOf}
+use Rattle.judge.proofs.Pass.{Passed, pass-start, pass-end, model-first, sheet-first, both-first}
+use borrow.Author.Needs.{needs}
 use Rattle.judge.proofs.scan.scan.Statement.{statement}
 use Rattle.judge.proofs.scan.scan.Tie as tie
 
 abbrev Inv-loop : tie.InvT-loop
-Inv-loop m s seen₀ i₀ j₀ seen i j = Passed m s i j seen
+Inv-loop m s seen₀ i₀ j₀ a₀ b₀ seen i j a b = Passed m s i j seen × (a ≡ headOf m i) × (b ≡ headOf s j)
 
 abbrev μ-loop : tie.MeasureT-loop
-μ-loop m s seen₀ i₀ j₀ seen i j = (length m + length s) - (i + j)
-
-loop-holds : tie.Need-loop-holds Inv-loop μ-loop
-loop-holds c = pass-start _ _ (c .before .before .pre .0) (c .before .before .pre .1)
-
-add-loop : tie.Need-add-loop Inv-loop μ-loop
-add-loop c = omega (arith, c .loop .inv .model .inside, c .loop .inv .sheet .inside)
-
-add-loop-2 : tie.Need-add-loop-2 Inv-loop μ-loop
-add-loop-2 c = search needs
+μ-loop m s seen₀ i₀ j₀ a₀ b₀ seen i j a b = (length m + length s) - (i + j)
 
 next-event-requires : tie.Need-next-event-requires Inv-loop μ-loop
 next-event-requires c κs = search needs
@@ -28,58 +22,93 @@ next-event-requires c κs = search needs
 next-event-requires-2 : tie.Need-next-event-requires-2 Inv-loop μ-loop
 next-event-requires-2 c κs = search needs
 
-earlier-requires : tie.Need-earlier-requires Inv-loop μ-loop
-earlier-requires c κs = search needs
+loop-holds : tie.Need-loop-holds Inv-loop μ-loop
+loop-holds c = (pass-start _ _ (c .before .before .before .before .pre .0) (c .before .before .before .before .pre .1), c .before .next-event .ensures, c .next-event2 .ensures)
 
-kind-in-requires : tie.Need-kind-in-requires Inv-loop μ-loop
-kind-in-requires c κs = search needs
+add-loop : tie.Need-add-loop Inv-loop μ-loop
+add-loop c = search needs
 
-kind-in-requires-2 : tie.Need-kind-in-requires-2 Inv-loop μ-loop
-kind-in-requires-2 c κs = search needs
+add-loop-2 : tie.Need-add-loop-2 Inv-loop μ-loop
+add-loop-2 c = search needs
 
 step-requires : tie.Need-step-requires Inv-loop μ-loop
 step-requires c κs = search needs
 
-beyond-requires : tie.Need-beyond-requires Inv-loop μ-loop
-beyond-requires c κs = omega (arith, c .before .before .before .before .before .before .before .loop .inv .model .inside)
+add-i : tie.Need-add-i Inv-loop μ-loop
+add-i c = search needs
 
-beyond-requires-2 : tie.Need-beyond-requires-2 Inv-loop μ-loop
-beyond-requires-2 c κs = omega (arith, c .before .before .before .before .before .before .before .before .loop .inv .sheet .inside)
+next-event-requires-3 : tie.Need-next-event-requires-3 Inv-loop μ-loop
+next-event-requires-3 c κs = search needs
 
--- what the turn's calls promised, put together
-abbrev Moved : (c : tie.After-beyond2 Inv-loop μ-loop) → Type 0
-Moved c =
-    let at = c .before .before .before .before .before .before .before .before .before in
-    let a = at .before .before .before .args in
-    Passed (a .m .now) (a .s .now) (c .before .beyond .result) (c .beyond2 .result) (c .before .before .step .result)
-    × (at .loop .i + at .loop .j < c .before .beyond .result + c .beyond2 .result)
+-- a word's tick is below `never`
+abbrev Fits : tie.At-loop Inv-loop μ-loop → Type 0
+Fits at =
+    let a = at .before .before .before .before .before .args in
+    (tickAt (a .m .now) (at .loop .i) < never) × (tickAt (a .s .now) (at .loop .j) < never)
 
-moved : (c : tie.After-beyond2 Inv-loop μ-loop) → Moved c
-moved c =
-    let at = c .before .before .before .before .before .before .before .before .before in
-    let pre = at .before .before .before .pre in
-    pass-turn _ _ (pre .0) (pre .1) (at .loop .i) (at .loop .j) (at .loop .seen) (at .loop .inv)
-    (omega (arith, at .before .before .shared-slice-known .given (at .loop .i)))
-    (omega (arith, at .before .shared-slice-known2 .given (at .loop .j)))
-    (c .before .before .before .before .before .before .before .before .loop-test .taken)
-    _ _ _ _ _ _ _ _
-    (c .before .before .before .before .before .before .before .next-event .ensures)
-    (c .before .before .before .before .before .before .next-event2 .ensures)
-    (c .before .before .before .before .before .earlier .ensures)
-    (c .before .before .before .before .kind-in .ensures)
-    (c .before .before .before .kind-in2 .ensures)
-    (c .before .before .step .ensures)
-    (c .before .beyond .ensures)
-    (c .beyond2 .ensures)
+fits : (at : tie.At-loop Inv-loop μ-loop) → Fits at
+fits at = (omega (arith, at .before .before .before .before .shared-slice-known .given (at .loop .i)), omega (arith, at .before .before .before .shared-slice-known2 .given (at .loop .j)))
 
 loop-less : tie.Need-loop-less Inv-loop μ-loop
-loop-less c = omega (arith, moved c .1, moved c .0 .model .inside, moved c .0 .sheet .inside)
+loop-less c = search needs
 
 loop-again : tie.Need-loop-again Inv-loop μ-loop
-loop-again c = moved c .0
+loop-again c =
+    let at = c .before .before .before .before .before .before in
+    let pre = at .before .before .before .before .before .pre in
+    let inv = at .loop .inv in
+    let p = model-first _ _ (pre .0) (pre .1) _ _ _ (inv .0) (fits at .0) (fits at .1) _ _ (inv .1) (inv .2) (c .before .before .if1 .taken) in
+    (rw (c .before .step .ensures) p, c .next-event3 .ensures, inv .2)
+
+step-requires-2 : tie.Need-step-requires-2 Inv-loop μ-loop
+step-requires-2 c κs = search needs
+
+add-j : tie.Need-add-j Inv-loop μ-loop
+add-j c = search needs
+
+next-event-requires-4 : tie.Need-next-event-requires-4 Inv-loop μ-loop
+next-event-requires-4 c κs = search needs
+
+loop-less-2 : tie.Need-loop-less-2 Inv-loop μ-loop
+loop-less-2 c = search needs
+
+loop-again-2 : tie.Need-loop-again-2 Inv-loop μ-loop
+loop-again-2 c =
+    let at = c .before .before .before .before .before .before .before .before .before in
+    let pre = at .before .before .before .before .before .pre in
+    let inv = at .loop .inv in
+    let p = sheet-first _ _ (pre .0) (pre .1) _ _ _ (inv .0) (fits at .0) (fits at .1) _ _ (inv .1) (inv .2) (c .before .before .if2 .taken) in
+    (rw (c .before .step2 .ensures) p, inv .1, c .next-event4 .ensures)
+
+step-requires-3 : tie.Need-step-requires-3 Inv-loop μ-loop
+step-requires-3 c κs = search needs
+
+add-i-2 : tie.Need-add-i-2 Inv-loop μ-loop
+add-i-2 c = search needs
+
+add-j-2 : tie.Need-add-j-2 Inv-loop μ-loop
+add-j-2 c = search needs
+
+next-event-requires-5 : tie.Need-next-event-requires-5 Inv-loop μ-loop
+next-event-requires-5 c κs = search needs
+
+next-event-requires-6 : tie.Need-next-event-requires-6 Inv-loop μ-loop
+next-event-requires-6 c κs = search needs
+
+loop-less-3 : tie.Need-loop-less-3 Inv-loop μ-loop
+loop-less-3 c = search needs
+
+loop-again-3 : tie.Need-loop-again-3 Inv-loop μ-loop
+loop-again-3 c =
+    let at = c .before .before .before .before .before .before .before .before .before .before in
+    let pre = at .before .before .before .before .before .pre in
+    let inv = at .loop .inv in
+    let p = both-first _ _ (pre .0) (pre .1) _ _ _ (inv .0) (fits at .0) (fits at .1) _ _ (inv .1) (inv .2)
+    (c .before .before .before .before .before .before .if1 .left) (c .before .before .before .if2 .left) (c .before .before .before .before .before .before .before .before .before .loop-test .taken) in
+    (rw (c .before .before .step3 .ensures) p, c .before .next-event5 .ensures, c .next-event6 .ensures)
 
 returns : tie.Need-returns Inv-loop μ-loop
-returns c = pass-end _ _ (c .before .before .before .before .pre .0) (c .before .before .before .before .pre .1) _ _ _ (c .before .loop .inv) (omega arith)
+returns c = pass-end _ _ (c .before .before .before .before .before .before .pre .0) (c .before .before .before .before .before .before .pre .1) _ _ _ (c .before .loop .inv .0) (omega arith)
 
 pub scan-spec : {M : Type 1} → statement M
 scan-spec =
@@ -87,17 +116,26 @@ scan-spec =
     (tie.spec
     Inv-loop
     μ-loop
+    next-event-requires
+    next-event-requires-2
     loop-holds
     add-loop
     add-loop-2
-    next-event-requires
-    next-event-requires-2
-    earlier-requires
-    kind-in-requires
-    kind-in-requires-2
     step-requires
-    beyond-requires
-    beyond-requires-2
+    add-i
+    next-event-requires-3
     loop-less
     loop-again
+    step-requires-2
+    add-j
+    next-event-requires-4
+    loop-less-2
+    loop-again-2
+    step-requires-3
+    add-i-2
+    add-j-2
+    next-event-requires-5
+    next-event-requires-6
+    loop-less-3
+    loop-again-3
     returns)

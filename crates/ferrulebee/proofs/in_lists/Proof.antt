@@ -5,17 +5,11 @@ use Prim.Native.Nat.{ℕ, _-_}
 use Rattle.wire.proofs.Words.{lent}
 use Rattle.judge.specs.Judge.{judgedBy}
 use borrow.Author.Needs.{needs}
-use Rattle.ferrulebee.proofs.on_words.Statement.{statement}
-use Rattle.ferrulebee.proofs.on_words.Tie as tie
-
-slice-aggregate-decode : tie.Need-slice-aggregate-decode
-slice-aggregate-decode c = search needs
+use Rattle.ferrulebee.proofs.in_lists.Statement.{statement}
+use Rattle.ferrulebee.proofs.in_lists.Tie as tie
 
 decode-requires : tie.Need-decode-requires
 decode-requires c κs = search needs
-
-slice-aggregate-decode-2 : tie.Need-slice-aggregate-decode-2
-slice-aggregate-decode-2 c = search needs
 
 decode-requires-2 : tie.Need-decode-requires-2
 decode-requires-2 c κs = search needs
@@ -41,23 +35,27 @@ part-b-end c = search needs
 judge-requires : tie.Need-judge-requires
 judge-requires c κs = search needs
 
+same-length : tie.Need-same-length
+same-length c = search needs
+
+same-length-2 : tie.Need-same-length-2
+same-length-2 c = search needs
+
 returns : tie.Need-returns
 returns c =
-    let d = c .before .before .before .before .before .before in
-    let e = d .before .before .before in
-    let a = e .before .before .before .before .args in
+    let d = c .before .before .before .before .before .before .before in
+    let e = d .before .before .before .before in
+    let a = e .before .before .before .before .before .before .args in
     c .judge .ensures
     ∙ ap₂ (λ (x y : List ℕ). judgedBy x y (a .now))
     (lent (a .m .now) (e .decode .result) _ _ (e .decode .ensures .0) (e .decode .ensures .1))
     (lent (a .s .now) (d .decode2 .result) _ _ (d .decode2 .ensures .0) (d .decode2 .ensures .1))
 
-pub on-words-spec : {M : Type 1} → statement M
-on-words-spec =
+pub in-lists-spec : {M : Type 1} → statement M
+in-lists-spec =
     tie.close
     (tie.spec
-    slice-aggregate-decode
     decode-requires
-    slice-aggregate-decode-2
     decode-requires-2
     sub-a
     part-a-start
@@ -66,4 +64,6 @@ on-words-spec =
     part-b-start
     part-b-end
     judge-requires
+    same-length
+    same-length-2
     returns)
