@@ -20,6 +20,27 @@ struct Open {
     at: usize,
 }
 
+/// What the second program says, and how long it was after each line: every answer is written before
+/// more input is asked for.
+#[derive(Default)]
+pub struct Expected {
+    pub output: Vec<u8>,
+    pub marks: Vec<usize>,
+}
+
+impl Expected {
+    /// Is this the output up to a mark? If not, what differs is shown from its line on.
+    pub fn compare(&self, what: &str, output: &[u8], mark: usize) {
+        let expected = &self.output[..mark];
+        if output != expected {
+            let same = output.iter().zip(expected).take_while(|(a, b)| a == b).count();
+            let line =
+                output[..same].iter().rposition(|&byte| byte == b'\n').map_or(0, |at| at + 1);
+            differs(what, &output[line..], &expected[line..]);
+        }
+    }
+}
+
 pub struct Console {
     input: Vec<u8>,
     at: usize,
@@ -29,14 +50,13 @@ pub struct Console {
     pub output: Vec<u8>,
     pub folder: Folder,
     open: BTreeMap<i32, Open>,
-    /// How long the output is after each line: every answer is written before more input is asked for.
-    marks: Option<Vec<usize>>,
+    pub expected: Option<Expected>,
 }
 
 impl Console {
-    pub fn new(input: &[u8], step: u8, folder: Folder, marks: Option<Vec<usize>>) -> Console {
+    pub fn new(input: &[u8], step: u8, folder: Folder, expected: Option<Expected>) -> Console {
         let (input, output, open) = (input.to_vec(), Vec::new(), BTreeMap::new());
-        Console { input, at: 0, step, calls: 0, output, folder, open, marks }
+        Console { input, at: 0, step, calls: 0, output, folder, open, expected }
     }
 
     fn empty() -> Console {
@@ -53,27 +73,27 @@ impl Console {
         few.max(wanted / 64).min(wanted)
     }
 
-    fn check_marks(&self) {
-        let Some(marks) = &self.marks else { return };
+    fn check_answers(&self) {
+        let Some(expected) = &self.expected else { return };
         let lines = self.input[..self.at].iter().filter(|&&byte| byte == b'\n').count();
-        let expected = if lines == 0 { 0 } else { marks[lines - 1] };
-        if self.output.len() != expected {
-            let said = format!("{} bytes of answers after {lines} lines", self.output.len());
-            differs("an answer is late", said.as_bytes(), format!("{expected}").as_bytes());
-        }
+        let mark = if lines == 0 { 0 } else { expected.marks[lines - 1] };
+        expected.compare(&format!("the answers to {lines} lines"), &self.output, mark);
     }
 
     fn read(&mut self, fd: i32, most: usize) -> Option<Vec<u8>> {
         if fd == 0 {
-            self.check_marks();
+            self.check_answers();
             let length = self.moved(most.min(self.input.len() - self.at));
             self.at += length;
             return Some(self.input[self.at - length..self.at].to_vec());
         }
         let open = self.open.get(&fd).expect("a read of a file that isn't open");
         let (name, at) = (open.name.clone(), open.at);
-        if is_folder(&name) || (most > 0 && name[0] == BROKEN) {
+        if is_folder(&name) {
             return None;
+        }
+        if name[0] == BROKEN {
+            return (most == 0).then(Vec::new);
         }
         let left = self.folder[&name].len() - at;
         let length = self.moved(most.min(left));
@@ -95,13 +115,21 @@ impl Console {
         length as isize
     }
 
+    fn opens_to_read(&self, name: &[u8]) -> bool {
+        match name[0] {
+            FULL => false,
+            BROKEN => true,
+            _ => is_folder(name) || self.folder.contains_key(name),
+        }
+    }
+
     fn open(&mut self, name: &[u8], writes: bool) -> i32 {
         if name.is_empty() || name.contains(&b'/') || (writes && is_folder(name)) {
             return -1;
         }
         if writes {
             self.folder.insert(name.to_vec(), Vec::new());
-        } else if name[0] == FULL || !(is_folder(name) || self.folder.contains_key(name)) {
+        } else if !self.opens_to_read(name) {
             return -1;
         }
         let fd = (FIRST_FILE..).find(|fd| !self.open.contains_key(fd)).expect("a free number");

@@ -10,7 +10,7 @@ mod stores;
 mod words;
 
 use common::{case_wanted, differs, hexadecimal, mutate_bytes, reading, tally, Chance};
-use console::{Console, Folder, BROKEN, FULL};
+use console::{Console, Expected, Folder, BROKEN, FULL};
 use second::files::{CantOpen, Files, Memory};
 use second::keeper::{run, Keeper};
 use second::limits::{BOOK_BYTES, STORE_BYTES};
@@ -94,21 +94,16 @@ impl Files for Disk {
     }
 }
 
-/// What the second program says, and how long it was after each line.
-#[derive(Default)]
-struct Said {
-    output: Vec<u8>,
-    marks: Vec<usize>,
-}
+struct Said(Expected);
 
 impl Write for &mut Said {
     fn write(&mut self, bytes: &[u8]) -> io::Result<usize> {
-        self.output.extend(bytes);
+        self.0.output.extend(bytes);
         Ok(bytes.len())
     }
 
     fn flush(&mut self) -> io::Result<()> {
-        self.marks.push(self.output.len());
+        self.0.marks.push(self.0.output.len());
         Ok(())
     }
 }
@@ -118,26 +113,19 @@ fn check(bytes: &[u8]) {
     if case_wanted() {
         return print_case(&input);
     }
-    // A file that breaks while it is read is a known difference (docs/TESTING.md): not asked for by default.
-    if input.script.contains(&BROKEN) && std::env::var_os("FUZZ_BROKEN").is_none() {
+    if input.script.contains(&BROKEN) && !scripts::broken_wanted() {
         return;
     }
     let folder = input.folder();
-    let mut said = Said::default();
+    let mut said = Said(Expected::default());
     let mut keeper = Keeper::new(Disk(Memory { files: folder.clone() }), reading());
     run(&mut keeper, &input.script[..], &mut said).expect("memory takes every byte");
-    let marks = std::mem::take(&mut said.marks);
-    let console = Console::new(&input.script, input.step, folder, Some(marks));
+    let console = Console::new(&input.script, input.step, folder, Some(said.0));
     let console = console::run(console, || unsafe { gate_main() });
-    if console.output != said.output {
-        let same = console.output.iter().zip(&said.output).take_while(|(a, b)| a == b).count();
-        let line =
-            said.output[..same].iter().rposition(|&byte| byte == b'\n').map_or(0, |at| at + 1);
-        let place = said.output[..line].iter().filter(|&&byte| byte == b'\n').count() + 1;
-        differs(&format!("answer {place}"), &console.output[line..], &said.output[line..]);
-    }
+    let expected = console.expected.as_ref().expect("it was given");
+    expected.compare("the answers", &console.output, expected.output.len());
     compare_folders(&console.folder, &keeper.files.0.files);
-    tally_answers(&said.output);
+    tally_answers(&console.output);
 }
 
 fn compare_folders(gate: &Folder, second: &Folder) {
