@@ -1,11 +1,11 @@
-//! Changes to lists of event words that keep them well-formed, but for the last one now and then.
+//! Changes to lists of event words, and what makes a changed list well-formed again.
 
 use crate::common::Chance;
 use second::event::{Event, Kind, Side, KINDS};
 use second::limits::{LAST_TICK, MODELS, SHEETS};
 use std::collections::BTreeMap;
 
-/// Longer lists come from the seeds alone: the second program takes its time over them.
+/// Longer lists are made by `lengthened` alone: the second program takes its time over them.
 const USUAL_WORDS: usize = 160;
 
 /// One change of the list.
