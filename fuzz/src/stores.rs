@@ -25,7 +25,8 @@ pub fn mutate_store(store: &mut Vec<u8>, chance: &mut Chance) {
         2 if entries.len() >= 2 => entries.truncate(entries.len() / 2 * 2 - 2),
         3 if entries.len() >= 2 => {
             let at = chance.below(entries.len());
-            let odd = [0, entries[at].wrapping_add(1), entries[at].wrapping_sub(1), u32::MAX, 1 << 31];
+            let odd =
+                [0, entries[at].wrapping_add(1), entries[at].wrapping_sub(1), u32::MAX, 1 << 31];
             entries[at] = chance.pick(&odd);
         }
         _ => entries.extend([0, 0]),
