@@ -2,7 +2,7 @@
 -- invariant `out ≡ front (table n f) old i`, for an array of any length. Assumes nothing.
 use mathlib.Core.Path.{_≡_, refl, sym, ap, ap₂, _∙_, subst}
 use mathlib.Core.List.{List, [], _∷_}
-use Prim.Native.Nat.{ℕ, zero, suc, _+_, _<_}
+use Prim.Native.Nat.{ℕ, zero, suc, _+_, _≤_, _<_}
 use native.Mathlib.Nat.{not-suc-le-zero, le-of-suc-le-suc}
 use native.Mathlib.Numerals.{add-one}
 use native.Mathlib.Omega.{arith}
@@ -57,6 +57,20 @@ turn n f d out i r h e er =
     let v : r ≡ getD t i 0 = er ∙ ap (λ (l : List ℕ). f i (getD l i 0)) e ∙ ap (f i) (front-at t d i 0) ∙ sym (getD-table n g i 0 h) in
     ap₂ (λ (l : List ℕ) (x : ℕ). set l i x) e v ∙ front-more t d i 0 (subst (λ (k : ℕ). i < k) (sym (length-table n g)) h)
     ∙ ap (front t d) (sym (add-one i))
+
+-- turns that would change nothing: where old and new are the same, the front may be longer at once
+pub front-same : (s d : List ℕ) (i j : ℕ) → i ≤ j → ((k : ℕ) → i ≤ k → k < j → getD s k 0 ≡ getD d k 0) → front s d i ≡ front s d j
+unfolding front
+front-same s d zero zero l h = refl
+front-same [] d zero (suc j) l h = refl
+front-same (x ∷ s) [] zero (suc j) l h = refl
+front-same (x ∷ s) (y ∷ d) zero (suc j) l h =
+    ap₂ (λ (z : ℕ) (r : List ℕ). z ∷ r) (sym (h 0 (omega arith) (omega arith))) (sym (front-none s d) ∙ front-same s d 0 j (omega arith) (λ k a b. h (suc k) (omega arith) (omega arith)))
+front-same s d (suc i) zero l h = absurd (omega arith)
+front-same [] d (suc i) (suc j) l h = refl
+front-same (x ∷ s) [] (suc i) (suc j) l h = refl
+front-same (x ∷ s) (y ∷ d) (suc i) (suc j) l h =
+    ap (λ (r : List ℕ). x ∷ r) (front-same s d i j (omega arith) (λ k a b. h (suc k) (omega arith) (omega arith)))
 
 -- after the last turn
 pub last : (n i : ℕ) (f : ℕ → ℕ) (d out : List ℕ) → length d ≡ n → i ≡ n → out ≡ front (table n f) d i → out ≡ table n f

@@ -1,10 +1,12 @@
 -- Closing a tick without accepted requests counts the tick and moves nothing else. Assumes nothing.
 use mathlib.Core.Path.{_≡_, refl, sym, ap₂, _∙_}
-use mathlib.Core.Bool.{Bool, true, false}
+use mathlib.Core.Bool.{Bool, true, false, _&&_, and-eq-true-iff}
 use mathlib.Core.List.{List}
 use Prim.Native.Nat.{ℕ, zero, suc, _+_, _-_, _*_, _/_, _%_, _^_, _≤_, _<_}
 use native.Mathlib.Nat.{mod-eq-of-lt}
 use native.Mathlib.Omega.{arith}
+use borrow.Author.Tests.{eqb-true}
+use lib.Dec.{eqb}
 use lib.Bits.{bitAnd, or-zero-r, and-mask}
 use lib.ListN.{getD}
 use lib.Seq.{ext-getD}
@@ -17,7 +19,7 @@ use Rattle.bits.specs.Set.{none, has, either, after}
 use Rattle.bits.proofs.Bit.{bit-zero, bit-ext}
 use Rattle.bits.proofs.Set.{has-none, words-none}
 use Rattle.group.specs.Carrier.{sheetWords}
-use Rattle.group.specs.Close.{closedMembers, adds, closedAdded, closedLiberal, closedWord, closedWords, closedGroup}
+use Rattle.group.specs.Close.{closedMembers, adds, closedAdded, closedLiberal, closedWord, quietWord, closedWords, closedGroup}
 use Rattle.group.specs.Fits.{Sized, Fits}
 use Rattle.group.specs.Fresh.{freshGroup}
 use Rattle.group.specs.Marks.{mark}
@@ -77,6 +79,20 @@ closedWord-nothing : (w : ℕ) (liberal : Bool) (members : ℕ) → w < 2 ^ widt
 unfolding closedWord
 closedWord-nothing w true members h = or-zero-r _ ∙ after-nothing w h
 closedWord-nothing w false members h = or-zero-r _ ∙ after-nothing w h
+
+-- where nothing happens to the grants of a word of sheets, each of its sheets keeps its word
+pub quiet-grants : (words sr added liberal : List ℕ) (members sl lj s : ℕ) → s < sheets → getD words s 0 < 2 ^ width
+    → quietWord (getD sr (s / width) 0) (getD added (s / width) 0) sl lj ≡ true → getD (closedWords words sr added liberal members sl lj) s 0 ≡ getD words s 0
+unfolding closedWords has
+quiet-grants words sr added liberal members sl lj s h fits q =
+    let a = and-eq-true-iff (eqb (getD sr (s / width) 0) 0 && eqb (getD added (s / width) 0) 0 && eqb sl 0) (eqb lj 0) .0 q in
+    let b = and-eq-true-iff (eqb (getD sr (s / width) 0) 0 && eqb (getD added (s / width) 0) 0) (eqb sl 0) .0 (a .0) in
+    let d = and-eq-true-iff (eqb (getD sr (s / width) 0) 0) (eqb (getD added (s / width) 0) 0) .0 (b .0) in
+    let none-sr : getD sr (s / width) 0 ≡ 0 = eqb-true _ 0 (d .0) in
+    let none-added : getD added (s / width) 0 ≡ 0 = eqb-true _ 0 (d .1) in
+    let none-sl : sl ≡ 0 = eqb-true sl 0 (b .1) in
+    let none-lj : lj ≡ 0 = eqb-true lj 0 (a .1) in
+    getD-table sheets _ s 0 h ∙ rw (none-sr, none-added, none-sl, none-lj, bit-zero (s % width)) (closedWord-nothing (getD words s 0) (bit (getD liberal (s / width) 0) (s % width)) members fits)
 
 -- ---- the group
 

@@ -1,8 +1,8 @@
 -- What closing the open tick does.
-use mathlib.Core.Bool.{Bool, cond}
+use mathlib.Core.Bool.{Bool, cond, _&&_}
 use mathlib.Core.List.{List}
 use Prim.Native.Nat.{ℕ, _+_, _-_, _^_}
-use lib.Dec.{leb}
+use lib.Dec.{eqb, leb}
 use lib.Bits.{bitAnd, bitOr}
 use lib.ListN.{getD}
 use Rattle.base.specs.Table.{table}
@@ -41,6 +41,10 @@ closedWord word sr add liberal members sl lj =
     (cond sr 0 (bitAnd word ((2 ^ width - 1) - sl)))
     (cond add members 0))
     (cond liberal lj 0)
+
+-- nothing happens to the grants of a word of sheets: none of them has an SR or an add, and no model an SL or an LJ
+abbrev pub quietWord : ℕ → ℕ → ℕ → ℕ → Bool
+quietWord sr adds sl lj = eqb sr 0 && eqb adds 0 && eqb sl 0 && eqb lj 0
 
 -- every sheet's word after a tick, from the words before and the tick's sets
 unfoldable pub closedWords : List ℕ → List ℕ → List ℕ → List ℕ → ℕ → ℕ → ℕ → List ℕ

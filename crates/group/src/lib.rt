@@ -7,8 +7,9 @@ ghost use Rattle.rules.specs.Ranges.{models, sheets, ticks};
 ghost use Rattle.bits.specs.Bit.{withBit};
 ghost use Rattle.bits.specs.Set.{with};
 ghost use Rattle.group.specs.Carrier.{carriers, entering};
-ghost use Rattle.group.specs.Close.{closedWord, closedWords, closedGroup, closeAnswer};
+ghost use Rattle.group.specs.Close.{closedWord, quietWord, closedWords, closedGroup, closeAnswer};
 ghost use Rattle.group.specs.Count.{countAnswer};
+ghost use Rattle.group.specs.Fits.{Sized};
 ghost use Rattle.group.specs.Fresh.{freshGroup, freshAnswer};
 ghost use Rattle.group.specs.Marks.{modelMarked, sheetMarked, carrierMarked, carrierIn};
 ghost use Rattle.group.specs.Read.{Reads};
@@ -247,27 +248,41 @@ fn close_word(word: u64, sr: bool, add: bool, liberal: bool, members: u64, sl: u
     bits::choose(sr, 0, word & !sl) | bits::choose(add, members, 0) | bits::choose(liberal, lj, 0)
 }
 
-// Every sheet's word after the tick.
+// Nothing happens to the grants of a word of sheets: none of them has an SR or an add, and no model an SL or an LJ.
+fn is_quiet(sr: u64, adds: u64, sl: u64, lj: u64) -> bool
+    ensures { λ r. ⌜ r ≡ quietWord sr adds sl lj ⌝ }
+{
+    (sr == 0) & (adds == 0) & (sl == 0) & (lj == 0)
+}
+
+// Every sheet's word after the tick, where it stands. Most ticks name few carriers, so a word of quiet sheets is passed over at once.
 fn close_words(
-    words: [u64; 256],
+    words: &mut [u64; 256],
     sr: [u64; 4],
     adds: [u64; 4],
     liberal: [u64; 4],
     members: u64,
     sl: u64,
     lj: u64,
-) -> [u64; 256]
-    ensures { λ r. ⌜ r ≡ closedWords words sr adds liberal members sl lj ⌝ }
+)
+    requires { ⌜ Sized sheets (words .now) ⌝ }
+    ensures { λ _. ⌜ words .exit .now ≡ closedWords (words .entry .now) sr adds liberal members sl lj ⌝ }
 {
-    let mut out = words;
-    for s in 0..SHEETS {
-        let k = s as usize;
-        let removed = bits::set_has(sr, s);
-        let add = bits::set_has(adds, s);
-        let inside = bits::set_has(liberal, s);
-        out[k] = close_word(out[k], removed, add, inside, members, sl, lj);
+    let mut s: u32 = 0;
+    while s < SHEETS {
+        let k = (s / bits::WIDTH) as usize;
+        if is_quiet(sr[k], adds[k], sl, lj) {
+            s = (s / bits::WIDTH + 1) * bits::WIDTH;
+            continue;
+        }
+        let place = s % bits::WIDTH;
+        let removed = bits::has_bit(sr[k], place);
+        let add = bits::has_bit(adds[k], place);
+        let inside = bits::has_bit(liberal[k], place);
+        let i = s as usize;
+        words[i] = close_word(words[i], removed, add, inside, members, sl, lj);
+        s += 1;
     }
-    out
 }
 
 impl Group {
@@ -275,40 +290,34 @@ impl Group {
         requires { ⌜ self .closed < ticks ⌝ }
         ensures { λ r. ⌜ r ≡ closedGroup self ⌝ }
     {
-        let closed = self.closed + 1;
-        let sj = self.sj;
-        let lj = self.lj;
         let sl = self.sl;
-        let ll = self.ll;
+        let lj = self.lj;
         let sa = self.sa;
         let la = self.la;
         let sr = self.sr;
         let lr = self.lr;
         let was_added = self.added;
         let was_liberal = self.liberal;
-        let words = self.grants;
-        let members = bits::after_word(self.members, sl | ll, sj | lj);
+        let members = bits::after_word(self.members, sl | self.ll, self.sj | lj);
         let removes = bits::set_either(sr, lr);
         let adds = bits::set_either(sa, la);
         let added = bits::set_after(was_added, removes, adds);
         let liberal = bits::set_after(was_liberal, removes, la);
-        let grants = close_words(words, sr, adds, liberal, members, sl, lj);
-        Group {
-            number: self.number,
-            closed: closed,
-            members: members,
-            sj: 0,
-            lj: 0,
-            sl: 0,
-            ll: 0,
-            added: added,
-            liberal: liberal,
-            sa: [0; 4],
-            la: [0; 4],
-            sr: [0; 4],
-            lr: [0; 4],
-            grants: grants,
-        }
+        let mut g = self;
+        close_words(&mut g.grants, sr, adds, liberal, members, sl, lj);
+        g.closed = g.closed + 1;
+        g.members = members;
+        g.sj = 0;
+        g.lj = 0;
+        g.sl = 0;
+        g.ll = 0;
+        g.added = added;
+        g.liberal = liberal;
+        g.sa = [0; 4];
+        g.la = [0; 4];
+        g.sr = [0; 4];
+        g.lr = [0; 4];
+        g
     }
 }
 
