@@ -81,11 +81,15 @@ impl Chance {
         from[self.below(from.len())]
     }
 
-    /// Mostly among the first few, so that carriers meet; sometimes any, or just past the end.
+    /// Mostly among few, so that carriers meet: the first three, and the first and last of each quarter,
+    /// where the words of a set of sheets begin and end. Sometimes any, or just past the end.
     pub fn number(&mut self, end: u32) -> u32 {
+        let quarter = self.below(4) as u32 * (end / 4);
         match self.below(16) {
             0 => self.below(end as usize) as u32,
-            1 => self.pick(&[end - 1, end, end / 4 * 3, 63, 64]),
+            1 => end,
+            2..=4 => quarter,
+            5..=7 => end - 1 - quarter,
             _ => self.below(3) as u32,
         }
     }
