@@ -18,6 +18,7 @@ macro_rules! fuzz_target {
         #[no_mangle]
         pub unsafe extern "C" fn LLVMFuzzerTestOneInput(bytes: *const u8, length: usize) -> i32 {
             $check($crate::common::lent(bytes, length));
+            $crate::places::note();
             0
         }
 
@@ -126,6 +127,7 @@ pub fn tally(answer: &str) {
 }
 
 extern "C" fn print_tally() {
+    crate::places::print();
     for (answer, count) in TALLY.lock().expect("one thread").iter() {
         eprintln!("answer: {count} {answer}");
     }

@@ -3,6 +3,7 @@
 
 mod chosen;
 mod common;
+mod places;
 mod words;
 
 use chosen::chosen;

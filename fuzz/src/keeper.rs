@@ -5,6 +5,7 @@
 mod books;
 mod common;
 mod console;
+mod places;
 mod scripts;
 mod stores;
 mod words;

@@ -4,6 +4,7 @@ mod books;
 mod chosen;
 mod common;
 mod console;
+mod places;
 mod words;
 
 use chosen::chosen;
