@@ -44,6 +44,8 @@ impl Expected {
 pub struct Console {
     input: Vec<u8>,
     at: usize,
+    /// Line ends among what was handed over.
+    lines: usize,
     /// 0: every call moves all it can; else few bytes, as a pipe may.
     step: u8,
     calls: usize,
@@ -56,7 +58,7 @@ pub struct Console {
 impl Console {
     pub fn new(input: &[u8], step: u8, folder: Folder, expected: Option<Expected>) -> Console {
         let (input, output, open) = (input.to_vec(), Vec::new(), BTreeMap::new());
-        Console { input, at: 0, step, calls: 0, output, folder, open, expected }
+        Console { input, at: 0, lines: 0, step, calls: 0, output, folder, open, expected }
     }
 
     fn empty() -> Console {
@@ -75,17 +77,20 @@ impl Console {
 
     fn check_answers(&self) {
         let Some(expected) = &self.expected else { return };
-        let lines = self.input[..self.at].iter().filter(|&&byte| byte == b'\n').count();
-        let mark = if lines == 0 { 0 } else { expected.marks[lines - 1] };
-        expected.compare(&format!("the answers to {lines} lines"), &self.output, mark);
+        let mark = if self.lines == 0 { 0 } else { expected.marks[self.lines - 1] };
+        if self.output.len() != mark {
+            expected.compare(&format!("the answers to {} lines", self.lines), &self.output, mark);
+        }
     }
 
     fn read(&mut self, fd: i32, most: usize) -> Option<Vec<u8>> {
         if fd == 0 {
             self.check_answers();
             let length = self.moved(most.min(self.input.len() - self.at));
+            let part = self.input[self.at..self.at + length].to_vec();
             self.at += length;
-            return Some(self.input[self.at - length..self.at].to_vec());
+            self.lines += part.iter().filter(|&&byte| byte == b'\n').count();
+            return Some(part);
         }
         let open = self.open.get(&fd).expect("a read of a file that isn't open");
         let (name, at) = (open.name.clone(), open.at);

@@ -62,7 +62,8 @@ impl Input {
     /// The files of the input and those at the limits that the script names.
     fn folder(&self) -> Folder {
         let own = NAMES.iter().map(|name| name.to_vec()).zip(self.files.clone());
-        let named = |name: &[u8]| self.script.windows(name.len()).any(|part| part == name);
+        let is_end = |byte: &u8| *byte == b' ' || *byte == b'\n';
+        let named = |name: &[u8]| self.script.split(is_end).any(|word| word == name);
         let limits: [(&[u8], fn() -> Vec<u8>); 4] = [
             (b"over", || vec![0; STORE_BYTES + 2]),
             (b"long", || vec![0; BOOK_BYTES + 1]),
