@@ -11,7 +11,7 @@ const USUAL_WORDS: usize = 160;
 /// One change of the list.
 pub fn change(words: &mut Vec<u32>, ticks: u32, chance: &mut Chance) {
     let at = chance.below(words.len());
-    match chance.below(8) {
+    match chance.below(9) {
         0 | 1 | 2 => add(words, ticks, chance),
         _ if words.is_empty() => add(words, ticks, chance),
         3 => drop(words.remove(at)),
@@ -19,6 +19,8 @@ pub fn change(words: &mut Vec<u32>, ticks: u32, chance: &mut Chance) {
         4 => words[at] ^= 512,
         5 => words[at] = event(ticks, chance).word(),
         6 => retick(words, at, ticks, chance),
+        // twice the same
+        7 => words.insert(at, words[at]),
         _ => {
             let other = chance.below(words.len());
             let tick = Event::from_word(words[other]).tick;
