@@ -1,4 +1,6 @@
 // Answers: text gathers in a buffer, which is written out before the program waits for more input.
+use group::CountAnswer;
+use group::ReadAnswer;
 use libc::STDOUT_FILENO;
 
 // No answer is longer.
@@ -53,6 +55,35 @@ pub fn refused(out: &mut [u8], at: usize, code: u32, place: u32) -> usize {
         return numbered(out, at, b" at ", place as u64);
     }
     text::add(out, at, b"\n")
+}
+
+pub fn request(out: &mut [u8], at: usize, code: u32) -> usize {
+    if code != 0 {
+        return refused(out, at, code, 0);
+    }
+    text::add(out, at, b"ok\n")
+}
+
+pub fn close(out: &mut [u8], at: usize, code: u32, ticks: u32) -> usize {
+    if code != 0 {
+        return refused(out, at, code, 0);
+    }
+    numbered(out, at, b"closed ", ticks as u64)
+}
+
+pub fn read(out: &mut [u8], at: usize, answer: ReadAnswer) -> usize {
+    match answer {
+        ReadAnswer::Granted => text::add(out, at, b"granted\n"),
+        ReadAnswer::Denied => text::add(out, at, b"denied\n"),
+        ReadAnswer::Refused(code) => refused(out, at, code, 0),
+    }
+}
+
+pub fn models(out: &mut [u8], at: usize, answer: CountAnswer) -> usize {
+    if answer.code != 0 {
+        return refused(out, at, answer.code, 0);
+    }
+    numbered(out, at, b"models ", answer.count as u64)
 }
 
 pub fn cannot_open(out: &mut [u8], at: usize, name: &[u8]) -> usize {
@@ -141,15 +172,32 @@ fn help_on_files(out: &mut [u8], at: usize) -> usize {
     line(out, at, b"help                these lines")
 }
 
+// Why a line can't be taken.
+pub fn what(out: &mut [u8], at: usize, reason: u32) -> usize {
+    if reason == super::ask::LONG_LINE {
+        return line(out, at, b"what? line too long");
+    }
+    if reason == super::ask::UNKNOWN {
+        return line(out, at, b"what? unknown command");
+    }
+    if reason == super::ask::MISSING {
+        return line(out, at, b"what? missing word");
+    }
+    if reason == super::ask::EXTRA {
+        return line(out, at, b"what? extra word");
+    }
+    wrong_word(out, at, reason)
+}
+
 // Why a word can't be taken.
-pub fn fault(out: &mut [u8], at: usize, fault: u32) -> usize {
-    if fault == super::ask::NOT_DECIMAL {
+fn wrong_word(out: &mut [u8], at: usize, reason: u32) -> usize {
+    if reason == super::ask::NOT_DECIMAL {
         return line(out, at, b"what? not a number");
     }
-    if fault == super::ask::TOO_LARGE {
+    if reason == super::ask::TOO_LARGE {
         return line(out, at, b"what? number too large");
     }
-    if fault == super::ask::LARGE_BUFFER {
+    if reason == super::ask::LARGE_BUFFER {
         return line(out, at, b"what? buffer too large");
     }
     line(out, at, b"what? file name too long")

@@ -1,63 +1,73 @@
-// Standard input, taken line by line.
+// Standard input, taken a buffer at a time.
 ghost use Prim.Native.Nat.{_≤_};
+ghost use lib.ListN.{length};
 use libc::STDIN_FILENO;
 
-// The bytes at hand: from `at` to `end` of the buffer.
+// The bytes at hand, from `at` to `end` of the buffer, and whether they are the last.
 pub struct Input {
     pub at: usize,
     pub end: usize,
+    pub over: bool,
 }
 
-// What was taken: the line so far, and whether it is whole.
-pub struct Taken {
-    pub input: Input,
-    pub length: usize,
-    pub whole: bool,
-}
-
-// Waits for more input; none is the end of it.
-pub fn refill(buffer: &mut [u8]) -> Input {
-    let got = libc::read(STDIN_FILENO, &mut *buffer);
+// The input before any of it is read.
+pub fn none() -> Input {
     Input {
         at: 0,
-        end: io::count(got, buffer),
+        end: 0,
+        over: false,
     }
 }
 
-// The end, where it lies within the buffer; else the buffer's.
-fn within(end: usize, length: usize) -> usize
-    ensures { λ r. ⌜ r ≤ length ⌝ }
+// What is at hand behind a line and its line feed.
+pub fn behind(input: Input, length: usize) -> Input {
+    let at = input.at;
+    let end = input.end;
+    if at >= end {
+        return input;
+    }
+    if length >= end - at {
+        return Input {
+            at: end,
+            end,
+            over: input.over,
+        };
+    }
+    Input {
+        at: at + length + 1,
+        end,
+        over: input.over,
+    }
+}
+
+// Moves the line at hand to the front of the buffer and answers its length. Of a line that is too long only as much is kept as shows it.
+fn to_front(buffer: &mut [u8], at: usize, end: usize) -> usize
+    ensures { λ r. ⌜ r ≤ length (now (buffer .exit)) ⌝ }
 {
-    if end < length { end } else { length }
-}
-
-// One byte more of a line; a full one stays as it is.
-fn add(text: &mut [u8], n: usize, byte: u8) -> usize {
-    if n >= text.len() {
-        return n;
-    }
-    text[n] = byte;
-    n + 1
-}
-
-// Takes bytes up to a line feed or the end of what is at hand. A line that is too long fills the text, and the rest of it is passed over.
-pub fn take(buffer: &[u8], input: Input, text: &mut [u8], had: usize) -> Taken {
-    let mut n = had;
-    let end = within(input.end, buffer.len());
-    for i in input.at..end {
-        let byte = buffer[i];
-        if byte == b'\n' {
-            return Taken {
-                input: Input { at: i + 1, end },
-                length: n,
-                whole: true,
-            };
+    let mut n: usize = 0;
+    let mut from = at;
+    while (n < super::line::LINE) & (from < end) {
+        if from >= buffer.len() {
+            return n;
         }
-        n = add(&mut *text, n, byte);
+        buffer[n] = buffer[from];
+        n += 1;
+        from += 1;
     }
-    Taken {
-        input: Input { at: end, end },
-        length: n,
-        whole: false,
+    n
+}
+
+// Waits for more input behind the line at hand; none is the end of it, and the end stays the end.
+pub fn more(buffer: &mut [u8], input: Input) -> Input {
+    if input.over {
+        return input;
+    }
+    let had = to_front(&mut *buffer, input.at, input.end);
+    let got = libc::read(STDIN_FILENO, &mut buffer[had..]);
+    let came = io::count(got, &buffer[had..]);
+    Input {
+        at: 0,
+        end: had + came,
+        over: came == 0,
     }
 }

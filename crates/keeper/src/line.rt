@@ -1,15 +1,17 @@
-// The lines that come in, and the words of one.
+// The words of a line.
+ghost use Prim.Native.Nat.{_<_};
 
 // One byte more than the longest line, so that a longer one is seen to be too long.
 pub const LINE: usize = 256;
-// One word more than the longest command has.
-pub const WORDS: usize = 5;
+// Where the words of the longest command begin and end, and one word more.
+pub const EDGES: usize = 10;
 
-// Where the words of a line stand; how many there are, up to WORDS.
-pub struct Words {
+// The line at the front of some bytes: its length, whether its line feed stands behind it, how many words it has, and where they begin and end in turns. Words from the fifth on count as one.
+pub struct Line {
+    pub length: usize,
+    pub whole: bool,
     pub count: usize,
-    pub from: [usize; WORDS],
-    pub to: [usize; WORDS],
+    pub edges: [usize; EDGES],
 }
 
 // A part of some bytes; empty where they have no such part.
@@ -23,63 +25,49 @@ pub fn part(bytes: &[u8], from: usize, to: usize) -> &[u8] {
     &bytes[from..to]
 }
 
-// The last word ends here.
-fn ended(words: Words, at: usize) -> Words {
-    let mut words = words;
-    let n = words.count;
-    if n == 0 {
-        return words;
+// The place for the next edge; the last place takes all that come after.
+fn next(n: usize, edge: bool) -> usize
+    ensures { λ r. ⌜ r < 10 ⌝ }
+{
+    if n >= EDGES - 1 {
+        return EDGES - 1;
     }
-    if n > WORDS {
-        return words;
-    }
-    words.to[n - 1] = at;
-    words
+    if edge { n + 1 } else { n }
 }
 
-// One byte more: a space ends a word, any other byte begins or goes on with one.
-fn step(words: Words, inside: bool, at: usize, byte: u8) -> Words {
-    let mut words = words;
-    let n = words.count;
-    if byte == b' ' {
-        if inside {
-            return ended(words, at);
-        }
-        return words;
-    }
-    if inside {
-        return words;
-    }
-    if n < WORDS {
-        words.from[n] = at;
-        words.count = n + 1;
-    }
-    words
-}
-
-// The words of a line: bytes between spaces.
-pub fn words_of(line: &[u8]) -> Words {
-    let mut words = Words {
-        count: 0,
-        from: [0; WORDS],
-        to: [0; WORDS],
-    };
+// Finds the line at the front and its words in one pass. Each byte's place is noted, and stays noted where a word begins or ends: so there is no branch that a processor has to guess.
+pub fn first(bytes: &[u8]) -> Line {
+    let mut edges = [0usize; EDGES];
+    let mut n: usize = 0;
     let mut inside = false;
-    for i in 0..line.len() {
-        words = step(words, inside, i, line[i]);
-        inside = line[i] != b' ';
+    let mut i: usize = 0;
+    while i < bytes.len() {
+        let byte = bytes[i];
+        if byte == b'\n' {
+            break;
+        }
+        edges[n] = i;
+        n = next(n, (byte == b' ') == inside);
+        inside = byte != b' ';
+        i += 1;
     }
-    step(words, inside, line.len(), b' ')
+    edges[n] = i;
+    Line {
+        length: i,
+        whole: i < bytes.len(),
+        count: (n + 1) / 2,
+        edges,
+    }
 }
 
 // Word k of a line; empty where it has none.
-pub fn word(line: &[u8], words: Words, k: usize) -> &[u8] {
-    if k >= WORDS {
-        return &line[0..0];
+pub fn word(bytes: &[u8], line: Line, k: usize) -> &[u8] {
+    if k >= EDGES / 2 {
+        return &bytes[0..0];
     }
-    let from = words.from[k];
-    let to = words.to[k];
-    part(line, from, to)
+    let from = line.edges[2 * k];
+    let to = line.edges[2 * k + 1];
+    part(bytes, from, to)
 }
 
 // The two texts are the same.
@@ -101,32 +89,18 @@ pub enum Number {
     TooLarge,
 }
 
-// A decimal number's value, or any number above the largest word where it is larger.
-fn value_of(word: &[u8]) -> u64 {
+// A word as a number: decimal digits, leading zeros allowed. A value that is too large stays so.
+pub fn decimal(word: &[u8]) -> Number {
     let mut value: u64 = 0;
     for i in 0..word.len() {
+        let byte = word[i];
+        if (byte < b'0') | (byte > b'9') {
+            return Number::NotDecimal;
+        }
         if value <= 4294967295 {
-            value = value * 10 + (word[i] % 48) as u64;
+            value = value * 10 + (byte % 48) as u64;
         }
     }
-    value
-}
-
-fn all_digits(word: &[u8]) -> bool {
-    for i in 0..word.len() {
-        if (word[i] < b'0') | (word[i] > b'9') {
-            return false;
-        }
-    }
-    true
-}
-
-// A word as a number: decimal digits, leading zeros allowed.
-pub fn decimal(word: &[u8]) -> Number {
-    if !all_digits(word) {
-        return Number::NotDecimal;
-    }
-    let value = value_of(word);
     if value > 4294967295 {
         return Number::TooLarge;
     }

@@ -4,18 +4,18 @@ ghost use lib.ListN.{length};
 
 mod answer;
 mod ask;
+mod command;
 mod events;
 mod file;
 mod input;
 mod keep;
 mod line;
 
-use ask::Command;
-use ask::Numbers;
+use ask::Asked;
+use group::Answer;
 use group::Group;
 use input::Input;
-use keep::Keeper;
-use keep::Reply;
+use keep::Counts;
 
 // One byte more than the largest store.
 const STORE: usize = 1048577;
@@ -26,286 +26,225 @@ fn store_space() -> [u8; STORE]
     [0u8; STORE]
 }
 
-// A command that leaves the keeper as it is.
-fn looks(
-    k: Keeper,
-    name: u32,
-    numbers: Numbers,
-    file: &[u8],
-    events: &[u32],
-    sheets: &[u8],
-    out: &mut [u8],
-    at: usize,
-) -> usize {
-    let group = k.group;
-    if name == ask::READ {
-        return keep::read(group, numbers.a, numbers.b, out, at);
-    }
-    if name == ask::MODELS {
-        return keep::models(group, numbers.a, out, at);
-    }
-    if name == ask::SAVE {
-        let closed = k.closed;
-        return keep::save(
-            group.closed,
-            group.number,
-            events::first(events, closed),
-            file,
-            out,
-            at,
-        );
-    }
-    if name == ask::DELIVER {
-        let length = k.store;
-        return keep::deliver(
-            group,
-            numbers.a,
-            numbers.b,
-            file,
-            line::part(sheets, 0, length),
-            out,
-            at,
-        );
-    }
-    answer::help(out, at)
+// The longest delivery; a book is shorter.
+fn delivery_space() -> [u8; ask::BUFFER]
+    ensures { λ r. ⌜ 1114112 ≡ length r ⌝ }
+{
+    [0u8; ask::BUFFER]
 }
 
-// A command that is spelled right, with its numbers.
-fn does(
-    k: Keeper,
-    command: Command,
-    numbers: Numbers,
-    file: &[u8],
-    events: &mut [u32],
-    sheets: &mut [u8],
-    out: &mut [u8],
-    at: usize,
-) -> Reply {
-    let name = command.name;
-    if name == ask::EVENT {
-        return keep::request(k, command.kind, numbers.a, events, out, at);
-    }
-    if name == ask::REQUEST {
-        return keep::request(k, numbers.a, numbers.b, events, out, at);
-    }
-    if name == ask::CLOSE {
-        return keep::close(k, out, at);
-    }
-    if name == ask::FRESH {
-        return keep::fresh(k, numbers.a, out, at);
-    }
-    if name == ask::LOAD {
-        return keep::load(k, file, events, out, at);
-    }
-    if name == ask::STORE {
-        return keep::take_store(k, file, sheets, out, at);
-    }
-    Reply {
-        keeper: k,
-        at: looks(k, name, numbers, file, events, sheets, out, at),
-    }
-}
-
-// One line's answer.
-fn answered(
-    k: Keeper,
-    text: &[u8],
-    events: &mut [u32],
-    sheets: &mut [u8],
-    out: &mut [u8],
-    at: usize,
-) -> Reply {
-    if text.len() >= line::LINE {
-        return Reply {
-            keeper: k,
-            at: answer::line(out, at, b"what? line too long"),
-        };
-    }
-    let words = line::words_of(text);
-    if words.count == 0 {
-        return Reply { keeper: k, at };
-    }
-    let command = ask::asked(line::word(text, words, 0));
-    if command.name == ask::UNKNOWN {
-        return Reply {
-            keeper: k,
-            at: answer::line(out, at, b"what? unknown command"),
-        };
-    }
-    if words.count <= command.takes {
-        return Reply {
-            keeper: k,
-            at: answer::line(out, at, b"what? missing word"),
-        };
-    }
-    if words.count - 1 > command.takes {
-        return Reply {
-            keeper: k,
-            at: answer::line(out, at, b"what? extra word"),
-        };
-    }
-    let numbers = ask::taken(text, words, command.name);
-    if numbers.fault != ask::FINE {
-        return Reply {
-            keeper: k,
-            at: answer::fault(out, at, numbers.fault),
-        };
-    }
-    let file = line::word(text, words, ask::name_at(command.name));
-    does(k, command, numbers, file, events, sheets, out, at)
-}
-
-// The keeper, the input at hand, the line so far, and the place for the next answer.
+// What stands beside the group: the input at hand, the place for the next answer, and the counts.
 struct Console {
-    keeper: Keeper,
     input: Input,
-    length: usize,
     at: usize,
-    over: bool,
+    counts: Counts,
 }
 
-// The line that was taken, answered.
-fn one_line(
-    c: Console,
-    text: &[u8],
-    events: &mut [u32],
-    sheets: &mut [u8],
-    out: &mut [u8],
-) -> Console {
-    let keeper = c.keeper;
+// What is heard in a turn: the console after it, where its line starts, and what that asks for.
+struct Heard {
+    console: Console,
+    from: usize,
+    asked: Asked,
+}
+
+// The line at hand. Where none is whole, what was answered is written out, and then more input is waited for; what is left when the input is over is the last line.
+fn hear(c: Console, buffer: &mut [u8], out: &[u8]) -> Heard {
     let input = c.input;
-    let length = c.length;
-    let reply = answered(
-        keeper,
-        line::part(text, 0, length),
-        events,
-        sheets,
-        &mut *out,
-        c.at,
-    );
-    let after = reply.keeper;
-    Console {
-        keeper: after,
-        input,
-        length: 0,
-        at: answer::room(out, reply.at),
-        over: c.over,
+    let counts = c.counts;
+    let from = input.at;
+    let hand = line::part(&*buffer, from, input.end);
+    let line = line::first(hand);
+    if line.whole | (input.over & (hand.len() > 0)) {
+        return Heard {
+            console: Console {
+                input: input::behind(input, line.length),
+                at: answer::room(out, c.at),
+                counts,
+            },
+            from,
+            asked: ask::of_line(hand, line),
+        };
     }
-}
-
-// Takes what is at hand of a line, and answers the line once it is whole.
-fn turn(
-    c: Console,
-    buffer: &[u8],
-    text: &mut [u8],
-    events: &mut [u32],
-    sheets: &mut [u8],
-    out: &mut [u8],
-) -> Console {
-    let keeper = c.keeper;
-    let input = c.input;
-    let taken = input::take(buffer, input, &mut *text, c.length);
-    let rest = taken.input;
-    let next = Console {
-        keeper,
-        input: rest,
-        length: taken.length,
-        at: c.at,
-        over: false,
-    };
-    if taken.whole {
-        return one_line(next, text, events, sheets, out);
-    }
-    next
-}
-
-// More input, after what was answered is written out.
-fn more(c: Console, buffer: &mut [u8], out: &[u8]) -> Console {
     answer::flush(out, c.at);
-    let keeper = c.keeper;
-    let input = input::refill(buffer);
-    let over = input.end == 0;
-    Console {
-        keeper,
-        input,
-        length: c.length,
-        at: 0,
-        over,
+    let name = if input.over { ask::END } else { ask::NOTHING };
+    Heard {
+        console: Console {
+            input: input::more(buffer, input),
+            at: 0,
+            counts,
+        },
+        from,
+        asked: ask::bare(name),
     }
 }
 
-// One turn of the console: more input where none is at hand, then what it brings.
-fn next(
-    c: Console,
-    buffer: &mut [u8],
-    text: &mut [u8],
-    events: &mut [u32],
-    sheets: &mut [u8],
-    out: &mut [u8],
-) -> Console {
-    if c.input.at < c.input.end {
-        return turn(c, buffer, text, events, sheets, out);
-    }
-    let fed = more(c, &mut *buffer, &*out);
-    if fed.over {
-        return fed;
-    }
-    turn(fed, buffer, text, events, sheets, out)
+fn request(group: Group, asked: Asked) -> Answer {
+    group.request(asked.a, asked.b)
 }
 
-// A proved loop has to end, and nothing says that an input does: the loop counts down from a number that no run uses up.
-fn converse(
+// The console after a request that was answered with a code, in the tick behind the closed ones.
+fn requested(
     c: Console,
-    buffer: &mut [u8],
-    text: &mut [u8],
+    asked: Asked,
+    code: u32,
+    closed: u32,
     events: &mut [u32],
-    sheets: &mut [u8],
     out: &mut [u8],
 ) -> Console {
     let mut c = c;
+    let mut counts = c.counts;
+    let event = events::word(closed, asked.a, asked.b);
+    counts.kept = events::kept(events, counts.kept, code, event);
+    c.counts = counts;
+    c.at = answer::request(out, c.at, code);
+    c
+}
+
+fn close(group: Group) -> Answer {
+    group.close()
+}
+
+// The console after a close that was answered with a code, and so many ticks are closed then.
+fn closed(c: Console, code: u32, ticks: u32, out: &mut [u8]) -> Console {
+    let input = c.input;
+    let counts = c.counts;
+    Console {
+        input,
+        at: answer::close(out, c.at, code, ticks),
+        counts: keep::closed(counts, code),
+    }
+}
+
+// The console after a question about the grants.
+fn look(c: Console, group: Group, asked: Asked, out: &mut [u8]) -> Console {
+    let mut c = c;
+    if asked.name == ask::READ {
+        c.at = answer::read(out, c.at, group.read(asked.a, asked.b));
+        return c;
+    }
+    c.at = answer::models(out, c.at, group.models(asked.a));
+    c
+}
+
+// Any other command, with the line that asks for it at the front of `text`.
+fn other(
+    c: Console,
+    group: Group,
+    asked: Asked,
+    text: &[u8],
+    events: &mut [u32],
+    sheets: &mut [u8],
+    bytes: &mut [u8],
+    out: &mut [u8],
+) -> Done {
+    let input = c.input;
+    let counts = c.counts;
+    let reply = keep::seldom(group, counts, asked, text, events, sheets, bytes, out, c.at);
+    let group = reply.group;
+    let counts = reply.counts;
+    Done {
+        last: Answer { code: 0, group },
+        console: Console {
+            input,
+            at: reply.at,
+            counts,
+        },
+    }
+}
+
+// The group, as the last call's answer has it, and the console.
+struct Done {
+    last: Answer,
+    console: Console,
+}
+
+// Answers every line up to the end of the input. The group stays in the last call's answer, and that in this one place: a Group goes by value, and every other place would be a copy more for each command.
+// A proved loop has to end, and nothing says that an input does: the loop counts down from a number that no run uses up.
+fn converse(
+    start: Done,
+    buffer: &mut [u8],
+    events: &mut [u32],
+    sheets: &mut [u8],
+    bytes: &mut [u8],
+    out: &mut [u8],
+) {
+    let mut last = start.last;
+    let mut console = start.console;
     let mut turns = u64::MAX;
     while turns > 0 {
-        if c.over {
-            return c;
+        turns -= 1;
+        let heard = hear(console, &mut *buffer, &*out);
+        let asked = heard.asked;
+        let name = asked.name;
+        console = heard.console;
+        if name == ask::REQUEST {
+            let group = last.group;
+            last = request(group, asked);
+            console = requested(
+                console,
+                asked,
+                last.code,
+                last.group.closed,
+                &mut *events,
+                &mut *out,
+            );
+            continue;
         }
-        c = next(
-            c,
-            &mut *buffer,
-            &mut *text,
+        if name == ask::CLOSE {
+            let group = last.group;
+            last = close(group);
+            console = closed(console, last.code, last.group.closed, &mut *out);
+            continue;
+        }
+        if (name == ask::READ) | (name == ask::MODELS) {
+            let group = last.group;
+            console = look(console, group, asked, &mut *out);
+            continue;
+        }
+        if name == ask::NOTHING {
+            continue;
+        }
+        if name == ask::END {
+            return;
+        }
+        let group = last.group;
+        let text = line::part(&*buffer, heard.from, console.input.end);
+        let done = other(
+            console,
+            group,
+            asked,
+            text,
             &mut *events,
             &mut *sheets,
+            &mut *bytes,
             &mut *out,
         );
-        turns -= 1;
+        last = done.last;
+        console = done.console;
     }
-    c
 }
 
 fn keep_group(out: &mut [u8]) {
     let mut buffer = [0u8; 65536];
-    let mut text = [0u8; line::LINE];
     let mut events = [0u32; events::KEPT];
     let mut sheets = store_space();
-    let fresh = Group::fresh(0);
-    let group = fresh.group;
-    let start = Console {
-        keeper: keep::started(group, 0, 0),
-        input: Input { at: 0, end: 0 },
-        length: 0,
-        at: 0,
-        over: false,
+    let mut bytes = delivery_space();
+    let start = Done {
+        last: Group::fresh(0),
+        console: Console {
+            input: input::none(),
+            at: 0,
+            counts: keep::started(0, 0),
+        },
     };
-    let last = converse(
+    converse(
         start,
         &mut buffer,
-        &mut text,
         &mut events,
         &mut sheets,
-        &mut *out,
+        &mut bytes,
+        out,
     );
-    // a last line without its line feed
-    let done = one_line(last, &text, &mut events, &mut sheets, &mut *out);
-    answer::flush(out, done.at);
 }
 
 fn main() {
