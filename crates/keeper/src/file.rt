@@ -19,15 +19,14 @@ pub fn read(name: &[u8], buffer: &mut [u8]) -> Came {
     if fd < 0 {
         return failed();
     }
-    // a folder opens and can't be read
-    let mut none = [0u8; 1];
-    let asked = libc::read(fd, &mut none[0..0]);
+    let length = io::read_full(fd, buffer);
+    // a read that failed looks like the file's end, but one more fails again: a folder's, a broken disk's
+    let mut more = [0u8; 1];
+    let asked = libc::read(fd, &mut more);
+    libc::close(fd);
     if asked < 0 {
-        libc::close(fd);
         return failed();
     }
-    let length = io::read_full(fd, buffer);
-    libc::close(fd);
     Came { ok: true, length }
 }
 
