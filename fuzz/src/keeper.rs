@@ -115,9 +115,6 @@ fn check(bytes: &[u8]) {
     if case_wanted() {
         return print_case(&input);
     }
-    if input.script.contains(&BROKEN) && !scripts::broken_wanted() {
-        return;
-    }
     let folder = input.folder();
     let mut said = Said(Expected::default());
     let mut keeper = Keeper::new(Disk(Memory { files: folder.clone() }), reading());

@@ -3,7 +3,6 @@
 use crate::common::{mutate_bytes, Chance};
 use second::event::KINDS;
 use second::limits::DELIVERY_BUFFER;
-use std::sync::OnceLock;
 
 const FILES: [&str; 10] = ["a", "b", "c", "d", "a", "b", "c", "new", "!full", "."];
 const LIMITS: [&str; 5] = ["most", "over", "long", "full", "none"];
@@ -41,17 +40,10 @@ fn repeat(lines: &mut Vec<Vec<u8>>, at: usize, chance: &mut Chance) {
     }
 }
 
-/// FUZZ_BROKEN: files that open and can't be read are asked for, too. They are a known difference
-/// (docs/TESTING.md), at which every run would end.
-pub fn broken_wanted() -> bool {
-    static WANTED: OnceLock<bool> = OnceLock::new();
-    *WANTED.get_or_init(|| std::env::var_os("FUZZ_BROKEN").is_some())
-}
-
 fn file(chance: &mut Chance) -> &'static str {
     match chance.below(16) {
         0 => chance.pick(&LIMITS),
-        1 if broken_wanted() => "~broken",
+        1 => "~broken",
         _ => chance.pick(&FILES),
     }
 }
