@@ -1,4 +1,5 @@
 -- Laws that the proofs of other crates cite.
 pub mod Bit
+pub mod Next
 pub mod Ones
 pub mod Set

@@ -3,7 +3,7 @@ use mathlib.Core.Path.{_≡_, refl, sym, ap, ap₂, _∙_}
 use mathlib.Core.Bool.{Bool, false, not, _&&_, _||_, or-false}
 use mathlib.Core.List.{List}
 use mathlib.Core.Logic.{⊎-elim}
-use Prim.Native.Nat.{ℕ, zero, suc, _/_, _%_, _^_, _≤_, _<_}
+use Prim.Native.Nat.{ℕ, zero, suc, _+_, _*_, _/_, _%_, _^_, _≤_, _<_}
 use native.Mathlib.Nat.{mod-lt, zero-lt-suc}
 use native.Mathlib.Omega.{arith}
 use lib.Dec.{eqb, ltb}
@@ -20,6 +20,14 @@ use Rattle.bits.proofs.Bit.{bit-zero, bit-or, bit-with, with-lt, bit-af
 
 place-lt : (i : ℕ) → i % width < width
 place-lt i = mod-lt i (zero-lt-suc 63)
+
+-- a bit of a word is a number of the set
+pub bit-has : (ws : List ℕ) (k i : ℕ) → i < width → bit (getD ws k 0) i ≡ has ws (k * width + i)
+unfolding has
+bit-has ws k i h =
+    let word : k ≡ (k * width + i) / width = omega arith in
+    let place : i ≡ (k * width + i) % width = omega arith in
+    ap₂ (λ (x y : ℕ). bit (getD ws x 0) y) word place
 
 -- ---- a number put in
 

@@ -3,7 +3,7 @@ ghost use mathlib.Core.Path.{_≡_};
 ghost use mathlib.Core.Bool.{true, cond};
 ghost use Prim.Native.Nat.{_<_};
 ghost use Rattle.base.specs.HowMany.{howMany};
-ghost use Rattle.bits.specs.Bit.{width, bit, withBit, afterWord};
+ghost use Rattle.bits.specs.Bit.{width, bit, nextBit, withBit, afterWord};
 ghost use Rattle.bits.specs.Set.{has, with, either, after};
 
 // How many bits a word has.
@@ -27,6 +27,20 @@ pub fn after_word(was: u64, gone: u64, come: u64) -> u64
     ensures { λ r. ⌜ r ≡ afterWord was gone come ⌝ }
 {
     was & !gone | come
+}
+
+// The first place from `from` on whose bit is set; the width where there is none.
+pub fn next_bit(word: u64, from: u32) -> u32
+    ensures { λ r. ⌜ r ≡ nextBit word from ⌝ }
+{
+    if from >= WIDTH {
+        return WIDTH;
+    }
+    let zeros = u64::trailing_zeros(word >> from);
+    if zeros >= WIDTH - from {
+        return WIDTH;
+    }
+    from + zeros
 }
 
 // A choice of words without a branch where it is used.

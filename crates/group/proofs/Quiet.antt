@@ -15,7 +15,7 @@ use Rattle.rules.specs.Ranges.{sheets}
 use Rattle.bits.specs.Bit.{width, bit, afterWord}
 use Rattle.bits.specs.Set.{none, has, either, after}
 use Rattle.bits.proofs.Bit.{bit-zero, bit-ext}
-use Rattle.bits.proofs.Set.{has-none, words-none}
+use Rattle.bits.proofs.Set.{bit-has, has-none, words-none}
 use Rattle.group.specs.Carrier.{sheetWords}
 use Rattle.group.specs.Close.{closedMembers, adds, closedAdded, closedLiberal, closedWord, closedWords, closedGroup}
 use Rattle.group.specs.Fits.{Sized, Fits}
@@ -38,14 +38,6 @@ fresh-unmarked = fresh-mark
 
 word-none : (w : ℕ) → w < 2 ^ width → ((i : ℕ) → bit w i ≡ false) → w ≡ 0
 word-none w h e = bit-ext width w 0 h (omega arith) (λ i l. e i ∙ sym (bit-zero i))
-
--- a bit of a word is a number of the set
-bit-has : (ws : List ℕ) (k i : ℕ) → i < width → bit (getD ws k 0) i ≡ has ws (k * width + i)
-unfolding has
-bit-has ws k i h =
-    let word : k ≡ (k * width + i) / width = omega arith in
-    let place : i ≡ (k * width + i) % width = omega arith in
-    ap₂ (λ (x y : ℕ). bit (getD ws x 0) y) word place
 
 set-none : (ws : List ℕ) → Sized sheetWords ws → ((i : ℕ) → has ws i ≡ false) → ws ≡ none sheetWords
 set-none ws z e = ext-getD 0 ws (none sheetWords) (z .long) (λ k h. bit-ext width (getD ws k 0) (getD (none sheetWords) k 0) (z .words k) (words-none sheetWords k)

@@ -1,5 +1,5 @@
 -- The words of a close as the code makes them: first what an SL takes from all of them, then the rest of the tick. `closed-apart` of proofs/Apart.antt shows that this is the close.
-use mathlib.Core.Bool.{Bool, cond, _&&_}
+use mathlib.Core.Bool.{Bool, cond}
 use mathlib.Core.List.{List}
 use Prim.Native.Nat.{ℕ, _-_, _^_}
 use lib.Dec.{eqb}
@@ -19,6 +19,6 @@ gainedWord word sr add liberal members lj = bitOr (bitOr (cond sr 0 word) (cond 
 unfoldable pub gainedWords : List ℕ → List ℕ → List ℕ → List ℕ → ℕ → ℕ → List ℕ
 gainedWords words sr adds liberal members lj = table sheets (λ s. gainedWord (getD words s 0) (has sr s) (has adds s) (has liberal s) members lj)
 
--- none of a word of sheets has an SR or an add, and no model an LJ
-abbrev pub quietWord : ℕ → ℕ → ℕ → Bool
-quietWord sr adds lj = eqb sr 0 && eqb adds 0 && eqb lj 0
+-- the sheets of one word of sheets whose grants may change: with an SR or an add, and where a model has an LJ, in by LA
+abbrev pub changedSheets : ℕ → ℕ → ℕ → ℕ → ℕ
+changedSheets sr adds liberal lj = bitOr (bitOr sr adds) (cond (eqb lj 0) 0 liberal)

@@ -1,10 +1,10 @@
-// The grants after a tick, changed where they stand. Most ticks name few carriers, so that most words need no look.
+// The grants after a tick, changed where they stand. Most ticks name few carriers, so most words need no look.
 ghost use mathlib.Core.Path.{_≡_};
 ghost use lib.ListN.{length};
 ghost use Rattle.rules.specs.Ranges.{sheets};
 ghost use Rattle.group.specs.Close.{closedWords};
 ghost use Rattle.group.specs.Fits.{Sized};
-ghost use Rattle.group.specs.Gain.{lostWords, gainedWord, quietWord, gainedWords};
+ghost use Rattle.group.specs.Gain.{lostWords, gainedWord, changedSheets, gainedWords};
 use rules::SHEETS;
 
 // Every sheet's word without the models that have an SL.
@@ -28,14 +28,14 @@ fn gained(word: u64, sr: bool, add: bool, liberal: bool, members: u64, lj: u64) 
     bits::choose(sr, 0, word) | bits::choose(add, members, 0) | bits::choose(liberal, lj, 0)
 }
 
-// None of a word of sheets has an SR or an add, and no model an LJ: their words stay.
-fn is_quiet(sr: u64, adds: u64, lj: u64) -> bool
-    ensures { λ r. ⌜ r ≡ quietWord sr adds lj ⌝ }
+// The sheets of one word of sheets whose grants may change: with an SR or an add, and where a model has an LJ, in by LA.
+fn changed(sr: u64, adds: u64, liberal: u64, lj: u64) -> u64
+    ensures { λ r. ⌜ r ≡ changedSheets sr adds liberal lj ⌝ }
 {
-    (sr == 0) & (adds == 0) & (lj == 0)
+    sr | adds | bits::choose(lj == 0, 0, liberal)
 }
 
-// Every sheet's word after the rest of the tick. A word of quiet sheets is passed over at once.
+// Every sheet's word after the rest of the tick, one word of sheets after the other; the sheets that don't change are passed over.
 fn gain(
     words: &mut [u64; 256],
     sr: [u64; 4],
@@ -47,20 +47,20 @@ fn gain(
     requires { ⌜ length (words .now) ≡ sheets ⌝ }
     ensures { λ _. ⌜ words .exit .now ≡ gainedWords (words .entry .now) sr adds liberal members lj ⌝ }
 {
-    let mut s: u32 = 0;
-    while s < SHEETS {
-        let k = (s / bits::WIDTH) as usize;
-        if is_quiet(sr[k], adds[k], lj) {
-            s = (s / bits::WIDTH + 1) * bits::WIDTH;
-            continue;
+    for k in 0..4usize {
+        let removed = sr[k];
+        let added = adds[k];
+        let inside = liberal[k];
+        let change = changed(removed, added, inside, lj);
+        let mut place = bits::next_bit(change, 0);
+        while place < bits::WIDTH {
+            let s = k * 64 + place as usize;
+            let sr_here = bits::has_bit(removed, place);
+            let add_here = bits::has_bit(added, place);
+            let in_here = bits::has_bit(inside, place);
+            words[s] = gained(words[s], sr_here, add_here, in_here, members, lj);
+            place = bits::next_bit(change, place + 1);
         }
-        let place = s % bits::WIDTH;
-        let removed = bits::has_bit(sr[k], place);
-        let add = bits::has_bit(adds[k], place);
-        let inside = bits::has_bit(liberal[k], place);
-        let i = s as usize;
-        words[i] = gained(words[i], removed, add, inside, members, lj);
-        s += 1;
     }
 }
 
