@@ -8,4 +8,5 @@ pub mod Gain
 pub mod Marks
 pub mod Read
 pub mod Request
+pub mod Settled
 pub mod View

@@ -1,6 +1,6 @@
 // A group: its grants, its memberships and its open tick, in one record that goes by value through requests and closes.
 // Every promise names the one definition of specs/ that its answer equals.
-mod grants;
+pub mod grants;
 
 ghost use mathlib.Core.Path.{_≡_};
 ghost use mathlib.Core.Bool.{true, cond};
@@ -14,6 +14,7 @@ ghost use Rattle.group.specs.Count.{countAnswer};
 ghost use Rattle.group.specs.Fresh.{freshGroup, freshAnswer};
 ghost use Rattle.group.specs.Marks.{modelMarked, sheetMarked, carrierMarked, carrierIn};
 ghost use Rattle.group.specs.Read.{Reads};
+ghost use Rattle.group.specs.Settled.{settledBy};
 ghost use Rattle.group.specs.Request.{requestRefusal, markedGroup, requestAnswer};
 use rules::ALREADY_IN;
 use rules::BAD_GROUP;
@@ -241,24 +242,46 @@ impl Group {
 
 // ---- close
 
+// All of a close but the grants: who is in after the tick, and the sheets with an add in it.
+pub struct Settled {
+    pub members: u64,
+    pub adds: [u64; 4],
+    pub added: [u64; 4],
+    pub liberal: [u64; 4],
+}
+
 impl Group {
-    pub fn after_close(mut self) -> Group
-        requires { ⌜ self .closed < ticks ⌝ }
-        ensures { λ r. ⌜ r ≡ closedGroup self ⌝ }
+    pub fn settled(self) -> Settled
+        ensures { λ r. ⌜ r ≡ settledBy self ⌝ }
     {
-        let sl = self.sl;
-        let lj = self.lj;
         let sa = self.sa;
         let la = self.la;
         let sr = self.sr;
         let lr = self.lr;
         let was_added = self.added;
         let was_liberal = self.liberal;
-        let members = bits::after_word(self.members, sl | self.ll, self.sj | lj);
         let removes = bits::set_either(sr, lr);
         let adds = bits::set_either(sa, la);
-        let added = bits::set_after(was_added, removes, adds);
-        let liberal = bits::set_after(was_liberal, removes, la);
+        Settled {
+            members: bits::after_word(self.members, self.sl | self.ll, self.sj | self.lj),
+            adds,
+            added: bits::set_after(was_added, removes, adds),
+            liberal: bits::set_after(was_liberal, removes, la),
+        }
+    }
+
+    pub fn after_close(mut self) -> Group
+        requires { ⌜ self .closed < ticks ⌝ }
+        ensures { λ r. ⌜ r ≡ closedGroup self ⌝ }
+    {
+        let after = self.settled();
+        let members = after.members;
+        let adds = after.adds;
+        let added = after.added;
+        let liberal = after.liberal;
+        let sr = self.sr;
+        let sl = self.sl;
+        let lj = self.lj;
         grants::close_words(&mut self.grants, sr, adds, liberal, members, sl, lj);
         self.closed = self.closed + 1;
         self.members = members;

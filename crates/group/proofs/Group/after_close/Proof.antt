@@ -1,10 +1,10 @@
--- `group::Group::after_close` meets its contract: each field by its own call.
+-- `group::Group::after_close` meets its contract: the grants where they stand, the rest as settled.
 use mir.Syntax.{w64}
 use mir.Val.{Fits as FitsIn}
 use lib.ListN.{getD}
 use Rattle.rules.specs.Ranges.{sheets}
+use Rattle.group.specs.Close.{closedGroup}
 use Rattle.group.specs.Fits.{Sized}
-use Rattle.group.specs.Close.{closedMembers, closedAdded, closedLiberal, closedGroup}
 use borrow.Author.Needs.{needs}
 use Rattle.group.proofs.Group.after_close.Statement.{statement}
 use Rattle.group.proofs.Group.after_close.Tie as tie
@@ -13,50 +13,20 @@ use Rattle.group.proofs.Group.after_close.Tie as tie
 held : (c : tie.Start) → Sized sheets (c .args .t1 .grants)
 held c = record { long = search needs; words = λ k. let w : FitsIn w64 (getD (c .args .t1 .grants) k 0) = search needs in w .fits }
 
-after-word-requires : tie.Need-after-word-requires
-after-word-requires c κs = search needs
-
-set-either-requires : tie.Need-set-either-requires
-set-either-requires c κs = search needs
-
-set-either-requires-2 : tie.Need-set-either-requires-2
-set-either-requires-2 c κs = search needs
-
-set-after-requires : tie.Need-set-after-requires
-set-after-requires c κs = search needs
-
-set-after-requires-2 : tie.Need-set-after-requires-2
-set-after-requires-2 c κs = search needs
+settled-requires : tie.Need-settled-requires
+settled-requires c κs = search needs
 
 close-words-requires : tie.Need-close-words-requires
-close-words-requires c κs =
-    held (c .before .before .before .before .before .before .before .before .before .before .before .before)
+close-words-requires c κs = held (c .before .before .before .before .before .before)
 
 add-self : tie.Need-add-self
 add-self c = search needs
 
 returns : tie.Need-returns
-unfolding closedGroup closedMembers closedAdded closedLiberal
+unfolding closedGroup
 returns c =
     let d = c .before .before .before .before in
-    simp (
-      d .close-words .ensures,
-      d .before .before .set-after2 .ensures,
-      d .before .before .before .set-after .ensures,
-      d .before .before .before .before .set-either2 .ensures,
-      d .before .before .before .before .before .set-either .ensures,
-      d .before .before .before .before .before .before .after-word .ensures,
-    )
+    simp (d .close-words .ensures, d .before .before .before .before .before .before .settled .ensures)
 
 pub after-close-spec : {M : Type 1} → statement M
-after-close-spec =
-    tie.close
-    (tie.spec
-    after-word-requires
-    set-either-requires
-    set-either-requires-2
-    set-after-requires
-    set-after-requires-2
-    close-words-requires
-    add-self
-    returns)
+after-close-spec = tie.close (tie.spec settled-requires close-words-requires add-self returns)
