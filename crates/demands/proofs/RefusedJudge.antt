@@ -26,7 +26,8 @@ use Rattle.strip.specs.History.{historyOf}
 use Rattle.judge.specs.Evidence.{evidenceOf}
 use Rattle.judge.specs.Judge.{judgedBy}
 use Rattle.wire.proofs.Words.{length-words}
-use Rattle.ferrulebee.specs.Judge.{stripOf, wholeStrip, packed, judgedFrom}
+use Rattle.wire.specs.Words.{wordsIn}
+use Rattle.ferrulebee.specs.Judge.{wholeStrip, packed, judgedFrom}
 use Rattle.demands.specs.Lines.{Refusal, at, plain, none, Line, line, firstMet, Refuses}
 use Rattle.demands.specs.Refusals.{stripLines, judgeLines, bytesLines, refusedVerdict}
 use Rattle.demands.proofs.Lines.{any, first-each, first-each-last}
@@ -119,7 +120,7 @@ packed-refusal (Granted moment) r = absurd (r refl)
 packed-refusal (Denied cause) r = absurd (r refl)
 packed-refusal (Refused number place) r = refl
 
-whole-short : (b : List ℕ) → wholeStrip (length b) ≡ true → length (stripOf b) ≤ events
+whole-short : (b : List ℕ) → wholeStrip (length b) ≡ true → length (wordsIn b) ≤ events
 whole-short b w =
     let few : length b ≤ 4 * events = leb-true _ _ (both (eqb (length b % 4) 0) (leb (length b) (4 * events)) w .1) in
     omega (arith, length-words b (length b / 4))
@@ -131,7 +132,7 @@ module _ (m s : List ℕ) (now : ℕ) where
   -- whole words, and not too many, are a strip that is not too long
   bytes-first : refusedVerdict (judgedFrom m s now) ≡ firstMet (bytesLines m s now)
   bytes-first = judge-order (ltb ticks now) (not (wholeStrip (length m))) (not (wholeStrip (length s))) _ _
-      (λ a b c. simp (a, le-ltb _ _ (whole-short m (not-false _ b)), le-ltb _ _ (whole-short s (not-false _ c))) (strips-told (stripOf m) (stripOf s) now))
+      (λ a b c. simp (a, le-ltb _ _ (whole-short m (not-false _ b)), le-ltb _ _ (whole-short s (not-false _ c))) (strips-told (wordsIn m) (wordsIn s) now))
 
   pub bytes-refuses : Refuses (bytesLines m s now) (refusedVerdict (judgedFrom m s now))
       (packed (judgedFrom m s now) ≡ refusedVerdict (judgedFrom m s now) .number * 2 ^ 32 + refusedVerdict (judgedFrom m s now) .place)

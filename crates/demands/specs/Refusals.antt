@@ -14,7 +14,8 @@ use Rattle.strip.specs.declared.Side.the-variants.{Model, Sheet}
 use Rattle.strip.specs.Good.{goodPlace}
 use Rattle.formula.specs.declared.Verdict.{Verdict}
 use Rattle.formula.specs.declared.Verdict.the-variants as verdict
-use Rattle.ferrulebee.specs.Judge.{stripOf, wholeStrip}
+use Rattle.wire.specs.Words.{wordsIn}
+use Rattle.ferrulebee.specs.Judge.{wholeStrip}
 use Rattle.group.specs.Carrier.{carriers, entering}
 use Rattle.group.specs.Marks.{carrierMarked, carrierIn}
 use Rattle.group.specs.declared.Group.{Group}
@@ -77,7 +78,7 @@ bytesLines m s now =
     line (ltb ticks now) (plain lateNow)
     ∷ line (not (wholeStrip (length m))) (plain longModel)
     ∷ line (not (wholeStrip (length s))) (plain longSheet)
-    ∷ (stripLines Model now (stripOf m) badModel ++ stripLines Sheet now (stripOf s) badSheet)
+    ∷ (stripLines Model now (wordsIn m) badModel ++ stripLines Sheet now (wordsIn s) badSheet)
 
 abbrev pub refusedVerdict : Verdict → Refusal
 refusedVerdict (verdict.Granted moment) = none

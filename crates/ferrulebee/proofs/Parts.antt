@@ -20,14 +20,14 @@ use Rattle.ferrulebee.specs.declared.part.Part.{Part}
 use Rattle.ferrulebee.specs.Part.{sheetStrip, evidencePart, recordsPart}
 
 -- the words that a part's numbers name in a list
-abbrev pub wordsIn : Part → List ℕ → List ℕ
-wordsIn p l = take (p .count) (drop (p .first) l)
+abbrev pub wordsOf : Part → List ℕ → List ℕ
+wordsOf p l = take (p .count) (drop (p .first) l)
 
 -- the strip that they name
 abbrev pub stripIn : Part → {A : Type 0} → A → A → A
 stripIn p m s = cond (eqb (p .list) sheetStrip) s m
 
-pub evidence-words : (v : Verdict) (m s : List ℕ) → wordsIn (evidencePart v m s) (stripIn (evidencePart v m s) m s) ≡ evidenceOf v m s
+pub evidence-words : (v : Verdict) (m s : List ℕ) → wordsOf (evidencePart v m s) (stripIn (evidencePart v m s) m s) ≡ evidenceOf v m s
 evidence-words (Granted (Add t)) m s = tail s (placeOf s t)
 evidence-words (Granted (Join t)) m s = tail m (placeOf m t)
 evidence-words (Denied cause) m s = refl
@@ -43,12 +43,12 @@ evidence-start (Refused refusal place) m s = refl
 front : (n : ℕ) (l p : List ℕ) → take n l ≡ p → take (length p) l ≡ p
 front n l p e = rw (← e) (ap (take (length (take n l))) (sym (take-append-drop n l)) ∙ take-append-seam (take n l) (drop n l))
 
-tick-words : (ws : List ℕ) (t : ℕ) (up : Bool) → rising ws ≡ up → wordsIn (recordsPart ws t) ws ≡ tickPart ws t
+tick-words : (ws : List ℕ) (t : ℕ) (up : Bool) → rising ws ≡ up → wordsOf (recordsPart ws t) ws ≡ tickPart ws t
 tick-words ws t true e =
     let p = part-here ws t (placeFrom ws t) (placeFrom ws (t + 1)) e refl refl in
     rw (← p .1) (front (placeFrom ws (t + 1) - placeFrom ws t) (drop (placeFrom ws t) ws) (tickPart ws t) (p .0))
 tick-words ws t false e = let p = no-part ws t e in rw (← p .0) refl
 
 -- the start is `recordsPart`'s own: `first` is `tickStart`
-pub records-words : (ws : List ℕ) (t : ℕ) → wordsIn (recordsPart ws t) ws ≡ tickPart ws t
+pub records-words : (ws : List ℕ) (t : ℕ) → wordsOf (recordsPart ws t) ws ≡ tickPart ws t
 records-words ws t = tick-words ws t (rising ws) refl

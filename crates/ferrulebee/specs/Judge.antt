@@ -6,7 +6,7 @@ use lib.Dec.{eqb, ltb, leb}
 use lib.ListN.{length}
 use Rattle.rules.specs.Ranges.{ticks, events}
 use Rattle.rules.specs.Refusals.{lateNow, longModel, longSheet}
-pub use Rattle.wire.specs.Words.{wordsIn as stripOf}
+use Rattle.wire.specs.Words.{wordsIn}
 use Rattle.formula.specs.declared.Verdict.{Verdict}
 use Rattle.formula.specs.declared.Verdict.the-variants.{Refused}
 use Rattle.formula.specs.Answer.{numberOf, valueOf}
@@ -25,4 +25,4 @@ judgedFrom m s now =
     cond (ltb ticks now) (Refused lateNow 0)
     (cond (not (wholeStrip (length m))) (Refused longModel 0)
     (cond (not (wholeStrip (length s))) (Refused longSheet 0)
-    (judgedBy (stripOf m) (stripOf s) now)))
+    (judgedBy (wordsIn m) (wordsIn s) now)))

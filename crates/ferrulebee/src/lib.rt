@@ -10,9 +10,10 @@ ghost use Prim.Native.Nat.{_+_, _*_, _/_, _^_, _<_, _≤_};
 ghost use lib.ListN.{length};
 ghost use Rattle.formula.specs.Answer.{numberOf, valueOf};
 ghost use Rattle.rules.specs.Ranges.{events};
+ghost use Rattle.wire.specs.Words.{wordsIn};
 ghost use Rattle.judge.specs.Judge.{judgedBy};
 ghost use Rattle.ferrulebee.specs.Short.{short};
-ghost use Rattle.ferrulebee.specs.Judge.{wholeStrip, stripOf, packed, judgedFrom};
+ghost use Rattle.ferrulebee.specs.Judge.{wholeStrip, packed, judgedFrom};
 use formula::Verdict;
 
 // Strips of at most so many words are judged in lists of this length: to clear lists for the longest takes longer than to judge a short strip.
@@ -55,7 +56,7 @@ fn judged(m: &[u8], s: &[u8], now: u32) -> Verdict
 
 fn on_words(m: &[u8], s: &[u8], now: u32) -> Verdict
     requires { ⌜ (length (m .now) / 4 ≤ events) × (length (s .now) / 4 ≤ events) ⌝ }
-    ensures { λ r. ⌜ r ≡ judgedBy (stripOf (m .entry .now)) (stripOf (s .entry .now)) now ⌝ }
+    ensures { λ r. ⌜ r ≡ judgedBy (wordsIn (m .entry .now)) (wordsIn (s .entry .now)) now ⌝ }
 {
     if m.len() / 4 <= SHORT && s.len() / 4 <= SHORT {
         in_short_lists(m, s, now)
@@ -66,7 +67,7 @@ fn on_words(m: &[u8], s: &[u8], now: u32) -> Verdict
 
 fn in_short_lists(m: &[u8], s: &[u8], now: u32) -> Verdict
     requires { ⌜ (length (m .now) / 4 ≤ short) × (length (s .now) / 4 ≤ short) ⌝ }
-    ensures { λ r. ⌜ r ≡ judgedBy (stripOf (m .entry .now)) (stripOf (s .entry .now)) now ⌝ }
+    ensures { λ r. ⌜ r ≡ judgedBy (wordsIn (m .entry .now)) (wordsIn (s .entry .now)) now ⌝ }
 {
     let mut model = [0u32; SHORT];
     let mut sheet = [0u32; SHORT];
@@ -75,7 +76,7 @@ fn in_short_lists(m: &[u8], s: &[u8], now: u32) -> Verdict
 
 fn in_long_lists(m: &[u8], s: &[u8], now: u32) -> Verdict
     requires { ⌜ (length (m .now) / 4 ≤ events) × (length (s .now) / 4 ≤ events) ⌝ }
-    ensures { λ r. ⌜ r ≡ judgedBy (stripOf (m .entry .now)) (stripOf (s .entry .now)) now ⌝ }
+    ensures { λ r. ⌜ r ≡ judgedBy (wordsIn (m .entry .now)) (wordsIn (s .entry .now)) now ⌝ }
 {
     let mut model = [0u32; rules::EVENTS];
     let mut sheet = [0u32; rules::EVENTS];
@@ -85,7 +86,7 @@ fn in_long_lists(m: &[u8], s: &[u8], now: u32) -> Verdict
 // The strips' words, one strip after the other, each to the front of its lent list, and the judge on them.
 fn in_lists(m: &[u8], s: &[u8], now: u32, model: &mut [u32], sheet: &mut [u32]) -> Verdict
     requires { ⌜ (length (m .now) / 4 ≤ length (model .now)) × (length (s .now) / 4 ≤ length (sheet .now)) ⌝ }
-    ensures { λ r. ⌜ r ≡ judgedBy (stripOf (m .entry .now)) (stripOf (s .entry .now)) now ⌝ }
+    ensures { λ r. ⌜ r ≡ judgedBy (wordsIn (m .entry .now)) (wordsIn (s .entry .now)) now ⌝ }
 {
     let n = wire::decode(m, model);
     let k = wire::decode(s, sheet);

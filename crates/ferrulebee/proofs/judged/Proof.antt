@@ -8,7 +8,8 @@ use borrow.Author.Tests.{le-ltb, leb-true, not-false}
 use Rattle.base.proofs.Rules.{answers}
 use Rattle.base.proofs.Truth.{both}
 use Rattle.rules.specs.Ranges.{events}
-use Rattle.ferrulebee.specs.Judge.{wholeStrip, stripOf, judgedFrom}
+use Rattle.wire.specs.Words.{wordsIn}
+use Rattle.ferrulebee.specs.Judge.{wholeStrip, judgedFrom}
 use Rattle.judge.specs.Judge.{judgedBy}
 use borrow.Author.Needs.{needs}
 use Rattle.ferrulebee.proofs.judged.Statement.{statement}
@@ -44,7 +45,7 @@ returns-4 c =
     let d = c .before in
     let b = d .before .before in
     let a = b .before .before .before .before .before .args in
-    let e : judgedFrom (a .m .now) (a .s .now) (a .now) ≡ judgedBy (stripOf (a .m .now)) (stripOf (a .s .now)) (a .now) =
+    let e : judgedFrom (a .m .now) (a .s .now) (a .now) ≡ judgedBy (wordsIn (a .m .now)) (wordsIn (a .s .now)) (a .now) =
     simp (le-ltb _ _ (b .before .before .if1 .left), ap not (sym (b .before .whole .ensures)) ∙ b .if2 .left, ap not (sym (d .before .whole2 .ensures)) ∙ d .if3 .left) in
     c .on-words .ensures ∙ sym e
 
