@@ -2,33 +2,47 @@
 -- something that it may change, an answer here is the pair of what it returns and of what it leaves there. Assumes nothing.
 use mathlib.Core.Path.{_≡_, sym, _∙_}
 use mathlib.Core.List.{List}
-use Prim.Native.Nat.{ℕ}
+use mathlib.Core.Bool.{Bool, cond}
+use Prim.Native.Nat.{ℕ, _≤_}
 use lib.ListN.{length}
 use denote.Ref.{RefT}
+use Rattle.base.specs.HowMany.{howMany}
 use Rattle.base.specs.Part.{wordAt}
+use Rattle.bits.specs.Bit.{width, bit, nextBit, afterWord}
+use Rattle.bits.specs.Set.{either, after}
 use Rattle.book.specs.Read.{bookRead, listRead}
-use Rattle.book.specs.Tick.{tickPart, tickStart}
+use Rattle.book.specs.Tick.{tickPart, tickStart, rising, placeFrom}
 use Rattle.book.specs.Write.{bookWritten, bufferWritten}
 use Rattle.book.specs.declared.BookRead.{BookRead}
 use Rattle.book.specs.declared.BookWritten.{BookWritten}
 use Rattle.event.specs.Word.{tickOf, kindOf, numberOf as carrierOf}
 use Rattle.formula.specs.Answer.{numberOf, valueOf}
 use Rattle.formula.specs.declared.Verdict.{Verdict}
+use Rattle.ferrulebee.specs.Delivered.{deliveryNumbers}
 use Rattle.ferrulebee.specs.Judge.{packed, judgedFrom}
+use Rattle.ferrulebee.specs.Part.{evidencePart, recordsPart}
+use Rattle.ferrulebee.specs.Read.{readNumbers}
+use Rattle.ferrulebee.specs.declared.deliver.Delivered.{Delivered}
+use Rattle.ferrulebee.specs.declared.gate.Read.{Read}
+use Rattle.ferrulebee.specs.declared.part.Part.{Part}
 use Rattle.gather.specs.Gather.{gathered, gatheredEnd}
+use Rattle.group.specs.Carrier.{carriers, entering}
 use Rattle.group.specs.Close.{closeAnswer}
 use Rattle.group.specs.Count.{countAnswer}
 use Rattle.group.specs.Fresh.{freshAnswer}
-use Rattle.group.specs.Read.{Reads}
+use Rattle.group.specs.Read.{Reads, readAnswer}
 use Rattle.group.specs.Request.{requestAnswer}
+use Rattle.group.specs.Settled.{settledBy}
 use Rattle.group.specs.declared.Answer.{Answer}
 use Rattle.group.specs.declared.CountAnswer.{CountAnswer}
 use Rattle.group.specs.declared.Group.{Group}
 use Rattle.group.specs.declared.ReadAnswer.{ReadAnswer}
+use Rattle.group.specs.declared.Settled.{Settled}
 use Rattle.judge.specs.Judge.{judgedBy}
 use Rattle.judge.proofs.Promise.{Meets, one-evidence}
 use Rattle.station.specs.Mask.{maskAnswer}
 use Rattle.station.specs.declared.MaskAnswer.{MaskAnswer}
+use Rattle.store.specs.Answer.{answer, bufferAfter}
 use Rattle.store.specs.declared.Delivery.{Delivery}
 use Rattle.store.proofs.Once.{Promised}
 use Rattle.strip.specs.declared.Side.{Side}
@@ -66,6 +80,24 @@ pub record PromisesDetermine : Type 0 where
   pub first-bad : (side : Side) (now : ℕ) (s : List ℕ) → Once ℕ (λ r. r ≡ firstBad side now s)
   pub gather : (words : List ℕ) (side : Side) (n : ℕ) (out : List ℕ) (at : ℕ)
       → Once (ℕ × List ℕ) (λ r. (r .0 ≡ gatheredEnd words side n out at) × (r .1 ≡ gathered words side n out at))
+  -- from C, in numbers: a read, a delivery with its buffer, the records of one tick, the evidence
+  pub read-numbers : (g : Group) (m s : ℕ) → Once Read (λ r. r ≡ readNumbers (readAnswer g m s))
+  pub delivery-numbers : (grants : List ℕ) (m : ℕ) (store out : List ℕ)
+      → Once (Delivered × List ℕ) (λ r. (r .0 ≡ deliveryNumbers (answer grants m store (length out))) × (r .1 ≡ bufferAfter grants m store out))
+  pub records-numbers : (ws : List ℕ) (t : ℕ) → Once Part (λ r. r ≡ recordsPart ws t)
+  pub evidence-numbers : (m s : List ℕ) (now : ℕ) → Once Part (λ r. r ≡ evidencePart (judgedBy m s now) m s)
+  -- what calls are made of: bits and sets, a kind's carriers, all of a close but the grants, a list that rises and a place in it
+  pub after-word : (was gone come : ℕ) → Once ℕ (λ r. r ≡ afterWord was gone come)
+  pub next-bit : (w from : ℕ) → Once ℕ (λ r. r ≡ nextBit w from)
+  pub choose : (when : Bool) (a b : ℕ) → Once ℕ (λ r. r ≡ cond when a b)
+  pub count-bits : (w : ℕ) → Once ℕ (λ r. r ≡ howMany (bit w) width)
+  pub set-either : (xs ys : List ℕ) → Once (List ℕ) (λ r. r ≡ either 4 xs ys)
+  pub set-after : (was gone come : List ℕ) → Once (List ℕ) (λ r. r ≡ after 4 was gone come)
+  pub carriers-of : (kind : ℕ) → Once ℕ (λ r. r ≡ carriers kind)
+  pub is-entering : (kind : ℕ) → Once Bool (λ r. r ≡ entering kind)
+  pub settled : (g : Group) → Once Settled (λ r. r ≡ settledBy g)
+  pub is-rising : (ws : List ℕ) → Once Bool (λ r. r ≡ rising ws)
+  pub place-from : (ws : List ℕ) (t : ℕ) → Once ℕ (λ r. (r ≡ placeFrom ws t) × (r ≤ length ws))
   -- the numbers of a verdict
   pub number : (v : Verdict) → Once ℕ (λ r. r ≡ numberOf v)
   pub value : (v : Verdict) → Once ℕ (λ r. r ≡ valueOf v)
@@ -103,6 +135,21 @@ promises-determine = record {
   tick-part = λ ws t. two (tickPart (ws .now) t) (wordAt ws (tickStart (ws .now) t));
   first-bad = λ side now s. one (firstBad side now s);
   gather = λ words side n out at. two (gatheredEnd words side n out at) (gathered words side n out at);
+  read-numbers = λ g m s. one (readNumbers (readAnswer g m s));
+  delivery-numbers = λ grants m store out. two (deliveryNumbers (answer grants m store (length out))) (bufferAfter grants m store out);
+  records-numbers = λ ws t. one (recordsPart ws t);
+  evidence-numbers = λ m s now. one (evidencePart (judgedBy m s now) m s);
+  after-word = λ was gone come. one (afterWord was gone come);
+  next-bit = λ w from. one (nextBit w from);
+  choose = λ when a b. one (cond when a b);
+  count-bits = λ w. one (howMany (bit w) width);
+  set-either = λ xs ys. one (either 4 xs ys);
+  set-after = λ was gone come. one (after 4 was gone come);
+  carriers-of = λ kind. one (carriers kind);
+  is-entering = λ kind. one (entering kind);
+  settled = λ g. one (settledBy g);
+  is-rising = λ ws. one (rising ws);
+  place-from = λ ws t r u p q. p .0 ∙ sym (q .0);
   number = λ v. one (numberOf v);
   value = λ v. one (valueOf v);
   text = λ out at bytes. two (addedEnd out at bytes) (added out at bytes);
