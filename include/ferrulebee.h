@@ -84,6 +84,7 @@ enum {
     FERRULEBEE_NOT_IN_STORE = 32,      /* granted sheet's number not below the store's count; the sheet */
     FERRULEBEE_BAD_ENTRY = 33,         /* granted sheet's entry not good; the sheet */
     FERRULEBEE_DELIVERY_TOO_LONG = 34, /* delivery doesn't fit the buffer */
+    FERRULEBEE_TOO_MANY_SPANS = 40,    /* list of numbers shorter than the pairs of the spans */
 
     FERRULEBEE_BY_ADD = 101,       /* granted since a moment by add; the tick of the latest moment */
     FERRULEBEE_BY_JOIN = 102,      /* granted since a moment by join; the tick of the latest moment */
@@ -306,6 +307,31 @@ enum {
 ferrulebee_part ferrulebee_evidence(const uint32_t *model, size_t model_words,
                                     const uint32_t *sheet, size_t sheet_words,
                                     uint32_t now);
+
+/* ---- the spans ---- */
+
+/* A refusal's number with its place, 0 where it has none, and count 0; or 0 and 0 with how many spans
+ * there are. */
+typedef struct {
+    uint32_t code;
+    uint32_t place;
+    uint32_t count;
+} ferrulebee_spans_answer;
+
+FERRULEBEE_ASSERT(sizeof(ferrulebee_spans_answer) == 12);
+FERRULEBEE_ASSERT(offsetof(ferrulebee_spans_answer, code) == 0);
+FERRULEBEE_ASSERT(offsetof(ferrulebee_spans_answer, place) == 4);
+FERRULEBEE_ASSERT(offsetof(ferrulebee_spans_answer, count) == 8);
+
+/* When could the model read the sheet? The longest spans of ticks in which the grant held, up to tick
+ * `now`, as pairs (first tick, last tick) to the front of `list`, which has room for `list_words` numbers:
+ * rising, with at least one tick between two spans. A span that is still open ends at `now`. Numbers
+ * beyond the pairs stay. The strips are lists of words, as for the evidence. A list of
+ * model_words + sheet_words numbers is always enough.
+ * Refusals, in this order: 10, 11, 12, 13, 14, then 40. */
+ferrulebee_spans_answer ferrulebee_spans(const uint32_t *model, size_t model_words,
+                                         const uint32_t *sheet, size_t sheet_words,
+                                         uint32_t now, uint32_t *list, size_t list_words);
 
 #ifdef __cplusplus
 }
