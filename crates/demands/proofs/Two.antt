@@ -17,8 +17,8 @@ use Rattle.formula.specs.Judged.{Judged}
 use Rattle.formula.specs.declared.Moment.{Moment}
 use Rattle.formula.specs.declared.Verdict.the-variants.{Granted}
 use Rattle.strip.specs.History.{historyOf}
-use Rattle.judge.specs.Judge.{judgedBy}
-use Rattle.judge.proofs.Promise.{Accepted, judge-means, judge-grants}
+use Rattle.judge.specs.Judge.{Accepted, judgedBy}
+use Rattle.judge.proofs.Promise.{judge-means, judge-grants}
 use Rattle.group.specs.declared.Group.{Group}
 use Rattle.station.specs.Mask.{maskAnswer}
 use Rattle.wire.specs.Word.{AllBytes}

@@ -1,4 +1,5 @@
 -- Laws of the judge's pass.
+pub mod Checked
 pub mod Histories
 pub mod Pass
 pub mod Promise

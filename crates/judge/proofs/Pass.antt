@@ -1,5 +1,6 @@
 -- One pass over two strips is the scan over all ticks, since ticks without events move nothing. Assumes nothing.
-use mathlib.Core.Path.{_≡_, refl, sym, ap, ap₂, _∙_}
+use mathlib.Core.Path.{_≡_, refl, sym, ap, ap₂, _∙_, subst, subst₂}
+use mathlib.Core.Bool.{true, false}
 use mathlib.Core.Logic.{⊎-elim}
 use mathlib.Core.List.{List}
 use Prim.Native.Nat.{ℕ, zero, suc, _+_, _≤_, _<_}
@@ -16,11 +17,12 @@ use Rattle.strip.specs.History.{historyOf}
 use Rattle.strip.proofs.Places.{tickAt, Rising, UpTo, After, after-start, quiet-till, history-here, after-hit, after-miss}
 use Rattle.judge.specs.declared.scan.Seen.{Seen}
 use Rattle.judge.specs.declared.scan.Head.{Head}
-use Rattle.judge.specs.Scan.{start, stepOf, scanTo, never, headOf}
+use Rattle.judge.specs.declared.scan.Pass.{Pass}
+use Rattle.judge.specs.Scan.{stepOf, scanTo, never, headOf, begun, modelTaken, sheetTaken, bothTaken, advanced}
 
 -- ---- the scan over ticks
 module _ (model sheet : History) where
-  abbrev Gap : ℕ → ℕ → Type 0
+  abbrev pub Gap : ℕ → ℕ → Type 0
   Gap last t = (u : ℕ) → last < u → u < t → (model u ≡ quiet) × (sheet u ≡ quiet)
 
   next : (t : ℕ) → scanTo model sheet (suc t) ≡ stepOf (scanTo model sheet t) (suc t) (model (suc t)) (sheet (suc t))
@@ -99,75 +101,110 @@ module _ (s : List ℕ) (r : Rising s) (last i : ℕ) (a : After last s i) (fits
       }
 
 -- ---- both strips
--- the pass has taken the events up to tick `last`
-pub record Passed (m s : List ℕ) (i j : ℕ) (seen : Seen) : Type 0 where
-  pub last : ℕ
-  pub upto : (n : ℕ) → UpTo n m → UpTo n s → last ≤ n
-  pub model : After last m i
-  pub sheet : After last s j
-  pub so-far : seen ≡ scanTo (historyOf m) (historyOf s) last
+-- the pass has taken the events up to its tick, and knows the next of each strip
+pub record Passed (m s : List ℕ) (p : Pass) : Type 0 where
+  pub upto : (n : ℕ) → UpTo n m → UpTo n s → p .tick ≤ n
+  pub model : After (p .tick) m (p .i)
+  pub sheet : After (p .tick) s (p .j)
+  pub so-far : p .seen ≡ scanTo (historyOf m) (historyOf s) (p .tick)
+  pub next-m : p .model ≡ headOf m (p .i)
+  pub next-s : p .sheet ≡ headOf s (p .j)
+
+-- a turn of the pass: from p to q, a later tick with an event, and none in between
+pub record Turned (m s : List ℕ) (p q : Pass) : Type 0 where
+  pub passed : Passed m s q
+  pub later : p .tick < q .tick
+  pub between : Gap (historyOf m) (historyOf s) (p .tick) (q .tick)
+  pub more : p .i + p .j < q .i + q .j
 
 module _ (m s : List ℕ) (rm : Rising m) (rs : Rising s) where
-  pub pass-start : Passed m s 0 0 start
+  pub pass-start : Passed m s (begun m s)
   unfolding scanTo
   pass-start = record {
-    last = 0;
     upto = λ n a b. omega arith;
     model = after-start m rm;
     sheet = after-start s rs;
     so-far = refl;
+    next-m = refl;
+    next-s = refl;
   }
 
-  module _ (i j : ℕ) (seen : Seen) (p : Passed m s i j seen) where
-    -- no event left: the pass stands at every later tick
-    pub pass-end : length m + length s ≤ i + j → (n : ℕ) → UpTo n m → UpTo n s → seen ≡ scanTo (historyOf m) (historyOf s) n
-    pass-end h n um us =
-        let im = p .model .inside in
-        let is = p .sheet .inside in
-        p .so-far ∙ sym (over-gap (historyOf m) (historyOf s) (p .last) n (p .upto n um us)
-        (λ u a b. (quiet-till m rm (p .last) i (p .model) u a (λ x. absurd (omega arith)), quiet-till s rs (p .last) j (p .sheet) u a (λ x. absurd (omega arith)))))
+  module _ (p : Pass) (x : Passed m s p) where
+    -- no event left: the pass stands at every later tick, and each is quiet
+    module _ (h : length m + length s ≤ p .i + p .j) where
+      pub quiet-end : (u : ℕ) → p .tick < u → (historyOf m u ≡ quiet) × (historyOf s u ≡ quiet)
+      quiet-end u a =
+          let im = x .model .inside in
+          let is = x .sheet .inside in
+          (quiet-till m rm (p .tick) (p .i) (x .model) u a (λ y. absurd (omega arith)), quiet-till s rs (p .tick) (p .j) (x .sheet) u a (λ y. absurd (omega arith)))
+
+      pub pass-end : (n : ℕ) → UpTo n m → UpTo n s → p .seen ≡ scanTo (historyOf m) (historyOf s) n
+      pass-end n um us = x .so-far ∙ sym (over-gap (historyOf m) (historyOf s) (p .tick) n (x .upto n um us) (λ u a b. quiet-end u a))
 
     -- the events of tick t are taken
-    taken : (t k l i′ j′ : ℕ) → p .last < t → ((n : ℕ) → UpTo n m → UpTo n s → t ≤ n) → Turn m (p .last) t k i′ → Turn s (p .last) t l j′
-        → Passed m s i′ j′ (stepOf seen t k l)
-    taken t k l i′ j′ later upto tm ts = record {
-      last = t;
-      upto = upto;
-      model = tm .after;
-      sheet = ts .after;
-      so-far =
-          ap (λ (x : Seen). stepOf x t k l) (p .so-far)
-          ∙ ap₂ (stepOf (scanTo (historyOf m) (historyOf s) (p .last)) t) (sym (tm .kind)) (sym (ts .kind))
-          ∙ sym (jump (historyOf m) (historyOf s) (p .last) t later (λ u x y. (tm .between u x y, ts .between u x y)));
+    taken : (t k l i′ j′ : ℕ) (a b : Head) → p .tick < t → ((n : ℕ) → UpTo n m → UpTo n s → t ≤ n) → Turn m (p .tick) t k i′ → Turn s (p .tick) t l j′
+        → a ≡ headOf m i′ → b ≡ headOf s j′ → p .i + p .j < i′ + j′
+        → Turned m s p (record { i = i′; j = j′; model = a; sheet = b; tick = t; seen = stepOf (p .seen) t k l })
+    taken t k l i′ j′ a b later upto tm ts ea eb more = record {
+      passed = record {
+        upto = upto;
+        model = tm .after;
+        sheet = ts .after;
+        so-far =
+            ap (λ (y : Seen). stepOf y t k l) (x .so-far)
+            ∙ ap₂ (stepOf (scanTo (historyOf m) (historyOf s) (p .tick)) t) (sym (tm .kind)) (sym (ts .kind))
+            ∙ sym (jump (historyOf m) (historyOf s) (p .tick) t later (λ u y z. (tm .between u y z, ts .between u y z)));
+        next-m = ea;
+        next-s = eb;
+      };
+      later = later;
+      between = λ u y z. (tm .between u y z, ts .between u y z);
+      more = more;
     }
 
-    module _ (fm : tickAt m i < never) (fs : tickAt s j < never) (a b : Head) (ea : a ≡ headOf m i) (eb : b ≡ headOf s j) where
+    module _ (fm : tickAt m (p .i) < never) (fs : tickAt s (p .j) < never) where
       -- the model's next event comes first, or the sheet's, or both come in one tick
-      pub model-first : a .tick < b .tick → Passed m s (i + 1) j (stepOf seen (a .tick) (a .kind) quiet)
+      model-first : p .model .tick < p .sheet .tick → Turned m s p (modelTaken m p (p .model))
       model-first h =
-          let l : headOf m i .tick < headOf s j .tick = rw (ea, eb) at h in
-          let low : headOf m i .tick < never = omega (arith, head-most s rs (p .last) j (p .sheet) fs) in
-          let later = head-later m rm (p .last) i (p .model) fm low in
-          rw ea (taken _ _ _ _ _ later (λ n um us. head-upto m rm (p .last) i (p .model) fm low n um)
-          (hit m rm (p .last) i (p .model) fm low) (miss s rs (p .last) j (p .sheet) fs _ later l))
+          let l : headOf m (p .i) .tick < headOf s (p .j) .tick = rw (x .next-m, x .next-s) at h in
+          let low : headOf m (p .i) .tick < never = omega (arith, head-most s rs (p .tick) (p .j) (x .sheet) fs) in
+          let later = head-later m rm (p .tick) (p .i) (x .model) fm low in
+          subst (λ (a : Head). Turned m s p (modelTaken m p a)) (sym (x .next-m))
+          (taken _ _ _ _ _ _ _ later (λ n um us. head-upto m rm (p .tick) (p .i) (x .model) fm low n um)
+          (hit m rm (p .tick) (p .i) (x .model) fm low) (miss s rs (p .tick) (p .j) (x .sheet) fs _ later l) refl (x .next-s) (omega arith))
 
-      pub sheet-first : b .tick < a .tick → Passed m s i (j + 1) (stepOf seen (b .tick) quiet (b .kind))
+      sheet-first : p .sheet .tick < p .model .tick → Turned m s p (sheetTaken s p (p .sheet))
       sheet-first h =
-          let l : headOf s j .tick < headOf m i .tick = rw (ea, eb) at h in
-          let low : headOf s j .tick < never = omega (arith, head-most m rm (p .last) i (p .model) fm) in
-          let later = head-later s rs (p .last) j (p .sheet) fs low in
-          rw eb (taken _ _ _ _ _ later (λ n um us. head-upto s rs (p .last) j (p .sheet) fs low n us)
-          (miss m rm (p .last) i (p .model) fm _ later l) (hit s rs (p .last) j (p .sheet) fs low))
+          let l : headOf s (p .j) .tick < headOf m (p .i) .tick = rw (x .next-m, x .next-s) at h in
+          let low : headOf s (p .j) .tick < never = omega (arith, head-most m rm (p .tick) (p .i) (x .model) fm) in
+          let later = head-later s rs (p .tick) (p .j) (x .sheet) fs low in
+          subst (λ (b : Head). Turned m s p (sheetTaken s p b)) (sym (x .next-s))
+          (taken _ _ _ _ _ _ _ later (λ n um us. head-upto s rs (p .tick) (p .j) (x .sheet) fs low n us)
+          (miss m rm (p .tick) (p .i) (x .model) fm _ later l) (hit s rs (p .tick) (p .j) (x .sheet) fs low) (x .next-m) refl (omega arith))
 
-      pub both-first : b .tick ≤ a .tick → a .tick ≤ b .tick → i + j < length m + length s → Passed m s (i + 1) (j + 1) (stepOf seen (a .tick) (a .kind) (b .kind))
+      both-first : p .sheet .tick ≤ p .model .tick → p .model .tick ≤ p .sheet .tick → p .i + p .j < length m + length s
+          → Turned m s p (bothTaken m s p (p .model) (p .sheet))
       both-first h g left =
-          let x : headOf s j .tick ≤ headOf m i .tick = rw (ea, eb) at h in
-          let y : headOf m i .tick ≤ headOf s j .tick = rw (ea, eb) at g in
-          let same : headOf s j .tick ≡ headOf m i .tick = omega arith in
-          let low : headOf m i .tick < never = ⊎-elim
-          (λ v. head-low m rm (p .last) i (p .model) fm (ltb-true i (length m) v))
-          (λ w. omega (arith, p .model .inside, ltb-false i (length m) w, head-low s rs (p .last) j (p .sheet) fs (omega (arith, p .model .inside, ltb-false i (length m) w))))
-          (either (ltb i (length m))) in
-          let later = head-later m rm (p .last) i (p .model) fm low in
-          rw (ea, eb) (taken _ _ _ _ _ later (λ n um us. head-upto m rm (p .last) i (p .model) fm low n um)
-          (hit m rm (p .last) i (p .model) fm low) (rw same at (hit s rs (p .last) j (p .sheet) fs (omega arith))))
+          let y : headOf s (p .j) .tick ≤ headOf m (p .i) .tick = rw (x .next-m, x .next-s) at h in
+          let z : headOf m (p .i) .tick ≤ headOf s (p .j) .tick = rw (x .next-m, x .next-s) at g in
+          let same : headOf s (p .j) .tick ≡ headOf m (p .i) .tick = omega arith in
+          let low : headOf m (p .i) .tick < never = ⊎-elim
+          (λ v. head-low m rm (p .tick) (p .i) (x .model) fm (ltb-true (p .i) (length m) v))
+          (λ w. omega (arith, x .model .inside, ltb-false (p .i) (length m) w, head-low s rs (p .tick) (p .j) (x .sheet) fs (omega (arith, x .model .inside, ltb-false (p .i) (length m) w))))
+          (either (ltb (p .i) (length m))) in
+          let later = head-later m rm (p .tick) (p .i) (x .model) fm low in
+          subst₂ (λ (a b : Head). Turned m s p (bothTaken m s p a b)) (sym (x .next-m)) (sym (x .next-s))
+          (taken _ _ _ _ _ _ _ later (λ n um us. head-upto m rm (p .tick) (p .i) (x .model) fm low n um)
+          (hit m rm (p .tick) (p .i) (x .model) fm low) (rw same at (hit s rs (p .tick) (p .j) (x .sheet) fs (omega arith))) refl refl (omega arith))
+
+      pub pass-on : p .i + p .j < length m + length s → Turned m s p (advanced m s p)
+      pass-on left =
+          let a = p .model .tick in
+          let b = p .sheet .tick in
+          ⊎-elim
+          (λ (t : ltb a b ≡ true). rw t (model-first (ltb-true a b t)))
+          (λ (f : ltb a b ≡ false). ⊎-elim
+          (λ (t : ltb b a ≡ true). rw (f, t) (sheet-first (ltb-true b a t)))
+          (λ (g : ltb b a ≡ false). rw (f, g) (both-first (ltb-false a b f) (ltb-false b a g) left))
+          (either (ltb b a)))
+          (either (ltb a b))

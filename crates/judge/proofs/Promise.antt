@@ -17,7 +17,7 @@ use Rattle.formula.specs.Formula.{Grant, ByAdd, ByJoin}
 use Rattle.formula.specs.Verdict.{verdict}
 use Rattle.formula.specs.Judged.{Judged, by-add, by-join, none, strict-leave, strict-remove}
 use Rattle.formula.specs.declared.Verdict.{Verdict}
-use Rattle.formula.specs.declared.Verdict.the-variants.{Granted}
+use Rattle.formula.specs.declared.Verdict.the-variants.{Granted, Refused}
 use Rattle.formula.specs.declared.Moment.{Moment}
 use Rattle.formula.specs.declared.Moment.the-variants.{Add, Join}
 use Rattle.formula.proofs.Judged.{judged}
@@ -26,26 +26,13 @@ use Rattle.strip.specs.Good.{Good, firstBad}
 use Rattle.strip.specs.History.{historyOf}
 use Rattle.strip.proofs.Bad.{good-none}
 use Rattle.strip.proofs.Places.{tickAt, Rising, good-rising, history-means}
-use Rattle.judge.specs.Judge.{judgedBy}
+use Rattle.judge.specs.Judge.{Accepted, judgedBy}
 use Rattle.judge.specs.Evidence.{placeOf, evidenceOf, startOf}
-
--- no refusal applies
-pub record Accepted (m s : List ℕ) (now : ℕ) : Type 0 where
-  pub tick : now ≤ ticks
-  pub short-m : length m ≤ events
-  pub short-s : length s ≤ events
-  pub good-m : Good Model now m
-  pub good-s : Good Sheet now s
+use Rattle.judge.proofs.Checked.{checks}
 
 module _ (m s : List ℕ) (now : ℕ) (a : Accepted m s now) where
   judges : judgedBy m s now ≡ verdict (historyOf m) (historyOf s) now
-  judges = simp (
-    le-ltb _ _ (a .tick),
-    le-ltb _ _ (a .short-m),
-    le-ltb _ _ (a .short-s),
-    le-ltb (firstBad Model now m) (length m) (omega (arith, good-none Model now m (a .good-m))),
-    le-ltb (firstBad Sheet now s) (length s) (omega (arith, good-none Sheet now s (a .good-s))),
-  )
+  judges = checks m s now Refused (verdict (historyOf m) (historyOf s) now) a
 
   -- the answer to accepted strips is what the formula means: granted or denied, the latest moment, the cause
   pub judge-means : Judged (historyOf m) (historyOf s) now (judgedBy m s now)

@@ -1,4 +1,4 @@
--- The pass over ticks tells the verdict of the formula. Assumes nothing.
+-- The pass over ticks tells the verdict of the formula, and whether the grant holds. Assumes nothing.
 use mathlib.Core.Path.{_≡_, refl, sym, ap, ap₂, _∙_}
 use mathlib.Core.Bool.{Bool, true, false, cond, not, _&&_, _||_, and-false, or-true}
 use mathlib.Core.Logic.{_⊎_, ⊎-elim}
@@ -16,7 +16,7 @@ use Rattle.formula.specs.Verdict.{latest, earliest, granted, denied, verdict}
 use Rattle.formula.proofs.Move.{inside-start, inside-moves, liberal-start, liberal-moves, grant-start, grant-moves}
 use Rattle.judge.specs.declared.scan.Standing.{Standing}
 use Rattle.judge.specs.declared.scan.Standing.the-variants.{Never, ByAdd, ByJoin, Left, Removed}
-use Rattle.judge.specs.Scan.{standsAfter, scanTo, toldBy}
+use Rattle.judge.specs.Scan.{standsAfter, scanTo, toldBy, holding}
 
 module _ (model sheet : History) where
   -- ---- membership and the liberal stay
@@ -179,3 +179,14 @@ module _ (model sheet : History) where
 
   pub scan-tells : (t : ℕ) → toldBy (scanTo model sheet t .standing) ≡ verdict model sheet t
   scan-tells t = told t (scanTo model sheet t .standing) (stands t)
+
+  -- the grant holds by the standing exactly when it holds by the formula
+  held : (t : ℕ) (x : Standing) → Stands t x → holding x ≡ grant model sheet t
+  held t Never s = sym (s .0)
+  held t (ByAdd k) s = sym (s .0)
+  held t (ByJoin k) s = sym (s .0)
+  held t (Left e) s = sym (s .0)
+  held t (Removed e) s = sym (s .0)
+
+  pub scan-holds : (t : ℕ) → holding (scanTo model sheet t .standing) ≡ grant model sheet t
+  scan-holds t = held t (scanTo model sheet t .standing) (stands t)

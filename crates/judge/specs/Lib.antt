@@ -1,3 +1,4 @@
+pub mod Checked
 pub mod Evidence
 pub mod Histories
 pub mod Judge

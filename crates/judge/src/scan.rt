@@ -5,7 +5,7 @@ ghost use lib.ListN.{length};
 ghost use Rattle.rules.specs.Ranges.{events};
 ghost use Rattle.strip.specs.History.{historyOf};
 ghost use Rattle.strip.proofs.Places.{Rising, UpTo};
-ghost use Rattle.judge.specs.Scan.{toldBy, endedBy, standsAfter, stepOf, scanTo, headOf};
+ghost use Rattle.judge.specs.Scan.{toldBy, holding, endedBy, standsAfter, stepOf, scanTo, headOf, begun, advanced};
 use formula::Cause;
 use formula::Moment;
 use formula::Verdict;
@@ -30,6 +30,16 @@ pub struct Seen {
 pub struct Head {
     pub tick: u32,
     pub kind: u32,
+}
+
+// Where the pass stands: the places of the next events, what these are, the last tick taken, and what is known after it.
+pub struct Pass {
+    pub i: usize,
+    pub j: usize,
+    pub model: Head,
+    pub sheet: Head,
+    pub tick: u32,
+    pub seen: Seen,
 }
 
 // Above the tick of any word.
@@ -116,38 +126,88 @@ fn next_event(s: &[u32], i: usize) -> Head
     }
 }
 
+// Before the first tick.
+pub fn begin(m: &[u32], s: &[u32]) -> Pass
+    ensures { λ r. ⌜ r ≡ begun (m .entry .now) (s .entry .now) ⌝ }
+{
+    Pass {
+        i: 0,
+        j: 0,
+        model: next_event(m, 0),
+        sheet: next_event(s, 0),
+        tick: 0,
+        seen: Seen {
+            inside: false,
+            liberal: false,
+            standing: Standing::Never,
+        },
+    }
+}
+
+// Takes the events of the next tick that has any.
+pub fn advance(m: &[u32], s: &[u32], pass: Pass) -> Pass
+    requires { ⌜ (pass .i ≤ length (m .now)) × (pass .j ≤ length (s .now)) ⌝ }
+    ensures { λ r. ⌜ r ≡ advanced (m .entry .now) (s .entry .now) pass ⌝ }
+{
+    let model = pass.model;
+    let sheet = pass.sheet;
+    let seen = pass.seen;
+    if model.tick < sheet.tick {
+        let i = pass.i + 1;
+        return Pass {
+            i,
+            j: pass.j,
+            model: next_event(m, i),
+            sheet,
+            tick: model.tick,
+            seen: step(seen, model.tick, model.kind, rules::QUIET),
+        };
+    }
+    if sheet.tick < model.tick {
+        let j = pass.j + 1;
+        return Pass {
+            i: pass.i,
+            j,
+            model,
+            sheet: next_event(s, j),
+            tick: sheet.tick,
+            seen: step(seen, sheet.tick, rules::QUIET, sheet.kind),
+        };
+    }
+    let i = pass.i + 1;
+    let j = pass.j + 1;
+    Pass {
+        i,
+        j,
+        model: next_event(m, i),
+        sheet: next_event(s, j),
+        tick: model.tick,
+        seen: step(seen, model.tick, model.kind, sheet.kind),
+    }
+}
+
 pub fn scan(m: &[u32], s: &[u32]) -> Seen
     requires { ⌜ Rising (m .now) × Rising (s .now) × (length (m .now) ≤ events) × (length (s .now) ≤ events) ⌝ }
     ensures { λ r. ⌜ ((n : ℕ) → UpTo n (m .entry .now) → UpTo n (s .entry .now) → r ≡ scanTo (historyOf (m .entry .now)) (historyOf (s .entry .now)) n) ⌝ }
 {
-    let mut seen = Seen {
-        inside: false,
-        liberal: false,
-        standing: Standing::Never,
-    };
-    let mut i: usize = 0;
-    let mut j: usize = 0;
-    // The heads stand in variables: a turn reads only the strip whose event it takes.
-    let mut a = next_event(m, 0);
-    let mut b = next_event(s, 0);
-    while i + j < m.len() + s.len() {
-        if a.tick < b.tick {
-            seen = step(seen, a.tick, a.kind, rules::QUIET);
-            i += 1;
-            a = next_event(m, i);
-        } else if b.tick < a.tick {
-            seen = step(seen, b.tick, rules::QUIET, b.kind);
-            j += 1;
-            b = next_event(s, j);
-        } else {
-            seen = step(seen, a.tick, a.kind, b.kind);
-            i += 1;
-            j += 1;
-            a = next_event(m, i);
-            b = next_event(s, j);
-        }
+    let mut pass = begin(m, s);
+    while pass.i + pass.j < m.len() + s.len() {
+        pass = advance(m, s, pass);
     }
-    seen
+    pass.seen
+}
+
+// The grant holds.
+pub fn holds(standing: Standing) -> bool
+    ensures { λ r. ⌜ r ≡ holding standing ⌝ }
+{
+    match standing {
+        Standing::Never => false,
+        Standing::ByAdd(_) => true,
+        Standing::ByJoin(_) => true,
+        Standing::Left(_) => false,
+        Standing::Removed(_) => false,
+    }
 }
 
 pub fn told(standing: Standing) -> Verdict

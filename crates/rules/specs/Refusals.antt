@@ -82,3 +82,7 @@ badEntry = 33
 
 abbrev pub deliveryTooLong : ℕ
 deliveryTooLong = 34
+
+-- the spans: 40
+abbrev pub tooManySpans : ℕ
+tooManySpans = 40

@@ -92,3 +92,6 @@ pub const NOT_IN_STORE: u32 = 32;
 pub const BAD_ENTRY: u32 = 33;
 
 pub const DELIVERY_TOO_LONG: u32 = 34;
+
+// Refusal of the spans.
+pub const TOO_MANY_SPANS: u32 = 40;

@@ -1,107 +1,51 @@
--- The refusals are the tests that led to them; past them the pass tells the verdict.
-use mathlib.Core.Path.{_≡_, ap, _∙_}
-use borrow.Author.Tests.{le-ltb, lt-ltb}
-use Rattle.strip.specs.declared.Side.the-variants.{Model, Sheet}
-use Rattle.strip.specs.Good.{Good}
+-- The refusals are the check's; past them the pass tells the verdict.
+use mathlib.Core.Path.{_≡_, sym, ap, _∙_}
+use Rattle.formula.specs.Verdict.{verdict}
+use Rattle.formula.specs.declared.Verdict.the-variants.{Refused}
 use Rattle.strip.specs.History.{historyOf}
-use Rattle.strip.proofs.Bad.{all-good}
 use Rattle.strip.proofs.Places.{good-rising, good-upto}
+use Rattle.judge.specs.declared.check.Checked.{Checked}
 use Rattle.judge.specs.declared.scan.Seen.{Seen}
+use Rattle.judge.specs.Judge.{Accepted}
 use Rattle.judge.specs.Scan.{toldBy}
+use Rattle.judge.proofs.Checked.{checks, check-accepts, check-refuses}
 use Rattle.judge.proofs.Standing.{scan-tells}
-use Rattle.base.proofs.Rules.{answers}
 use borrow.Author.Needs.{needs}
 use Rattle.judge.proofs.judge.Statement.{statement}
 use Rattle.judge.proofs.judge.Tie as tie
 
+check-requires : tie.Need-check-requires
+check-requires c κs = search needs
+
 returns : tie.Need-returns
-returns c = search answers
+returns c =
+    let e = c .before .before .check .ensures in
+    let a = c .before .before .before .before .before .args in
+    ap (λ (x : Checked). Refused (x .code) (x .place)) e
+    ∙ sym (check-refuses (a .m .now) (a .s .now) (a .now) Refused (verdict (historyOf (a .m .now)) (historyOf (a .s .now)) (a .now))
+    (λ z. c .if1 .taken (ap (λ (x : Checked). x .code) e ∙ z)))
 
-returns-2 : tie.Need-returns-2
-returns-2 c = search answers
-
-returns-3 : tie.Need-returns-3
-returns-3 c = search answers
-
-first-bad-requires : tie.Need-first-bad-requires
-first-bad-requires c κs = search needs
-
-cast-t11 : tie.Need-cast-t11
-cast-t11 c = search needs
-
-returns-4 : tie.Need-returns-4
-returns-4 c =
-    let e = c .before .first-bad .ensures in
-    let b = c .before .before in
-    simp (← e, le-ltb _ _ (b .before .before .if1 .left), le-ltb _ _ (b .before .if2 .left), le-ltb _ _ (b .if3 .left), lt-ltb _ _ (c .if4 .taken))
-
-first-bad-requires-2 : tie.Need-first-bad-requires-2
-first-bad-requires-2 c κs = search needs
-
-cast-t12 : tie.Need-cast-t12
-cast-t12 c = search needs
-
-returns-5 : tie.Need-returns-5
-returns-5 c =
-    let e = c .before .before .before .first-bad .ensures in
-    let f = c .before .first-bad2 .ensures in
-    let b = c .before .before .before .before in
-    simp (
-      ← e,
-      ← f,
-      le-ltb _ _ (b .before .before .if1 .left),
-      le-ltb _ _ (b .before .if2 .left),
-      le-ltb _ _ (b .if3 .left),
-      le-ltb _ _ (c .before .before .if4 .left),
-      lt-ltb _ _ (c .if5 .taken),
-    )
-
--- past all refusals both strips are good
-good-m : (c : tie.Else5) → Good Model (c .before .before .before .before .before .before .before .before .before .args .now) (c .before .before .before .before .before .before .before .before .before .args .m .now)
-good-m c = all-good Model _ _ (rw (← c .before .before .before .first-bad .ensures) (c .before .before .if4 .left))
-
-good-s : (c : tie.Else5) → Good Sheet (c .before .before .before .before .before .before .before .before .before .args .now) (c .before .before .before .before .before .before .before .before .before .args .s .now)
-good-s c = all-good Sheet _ _ (rw (← c .before .first-bad2 .ensures) (c .if5 .left))
+-- past the check no refusal applies
+accepted : (c : tie.Else1) → let a = c .before .before .before .before .before .args in Accepted (a .m .now) (a .s .now) (a .now)
+accepted c = check-accepts _ _ _ (sym (ap (λ (x : Checked). x .code) (c .before .before .check .ensures)) ∙ c .if1 .left)
 
 scan-requires : tie.Need-scan-requires
-scan-requires c κs = (good-rising _ _ _ (good-m c), good-rising _ _ _ (good-s c), search needs, search needs)
+scan-requires c κs =
+    let x = accepted c in
+    (good-rising _ _ _ (x .good-m), good-rising _ _ _ (x .good-s), x .short-m, x .short-s)
 
 told-requires : tie.Need-told-requires
 told-requires c κs = search needs
 
-returns-6 : tie.Need-returns-6
-returns-6 c =
-    let g = c .before .before in
-    let b = g .before .before .before .before in
+returns-2 : tie.Need-returns-2
+returns-2 c =
+    let b = c .before .before in
+    let x = accepted b in
     let a = b .before .before .before .before .before .args in
-    let v = c .told .ensures
-    ∙ ap (λ (x : Seen). toldBy (x .standing)) (c .before .scan .ensures (a .now) (good-upto _ _ _ (good-m g)) (good-upto _ _ _ (good-s g)))
-    ∙ scan-tells (historyOf (a .m .now)) (historyOf (a .s .now)) (a .now) in
-    let e = g .before .before .before .first-bad .ensures in
-    let f = g .before .first-bad2 .ensures in
-    simp (
-      ← e,
-      ← f,
-      le-ltb _ _ (b .before .before .if1 .left),
-      le-ltb _ _ (b .before .if2 .left),
-      le-ltb _ _ (b .if3 .left),
-      le-ltb _ _ (g .before .before .if4 .left),
-      le-ltb _ _ (g .if5 .left),
-    ) v
+    c .told .ensures
+    ∙ ap (λ (y : Seen). toldBy (y .standing)) (c .before .scan .ensures (a .now) (good-upto _ _ _ (x .good-m)) (good-upto _ _ _ (x .good-s)))
+    ∙ scan-tells (historyOf (a .m .now)) (historyOf (a .s .now)) (a .now)
+    ∙ sym (checks (a .m .now) (a .s .now) (a .now) Refused (verdict (historyOf (a .m .now)) (historyOf (a .s .now)) (a .now)) x)
 
 pub judge-spec : {M : Type 1} → statement M
-judge-spec =
-    tie.close
-    (tie.spec
-    returns
-    returns-2
-    returns-3
-    first-bad-requires
-    cast-t11
-    returns-4
-    first-bad-requires-2
-    cast-t12
-    returns-5
-    scan-requires
-    told-requires
-    returns-6)
+judge-spec = tie.close (tie.spec check-requires returns scan-requires told-requires returns-2)

@@ -1,0 +1,56 @@
+-- What is left of the spans after a tick: nothing changes over quiet ticks, and a tick with events moves it as the code's turn does. Assumes nothing.
+use mathlib.Core.Path.{_≡_, refl, sym, ap, _∙_}
+use mathlib.Core.Bool.{Bool, true, false, cond, not}
+use mathlib.Core.List.{List, [], _∷_, _++_}
+use mathlib.Core.Logic.{⊎-elim}
+use Prim.Native.Nat.{ℕ, zero, suc, _+_, _-_, _≤_, _<_}
+use native.Mathlib.Omega.{arith}
+use native.Mathlib.Nat.{eq-or-lt-of-le}
+use lib.Dec.{eqb, eqb·suc-zero}
+use lib.ListN.{length}
+use Rattle.base.proofs.Truth.{either}
+use Rattle.span.specs.Spans.{Span}
+use Rattle.span.specs.SpansOf.{openedAt, endedAt, spansFrom}
+use Rattle.span.specs.Steps.{pairsFrom, turned, turnedList, ended, endedList}
+use Rattle.span.specs.declared.Spanning.{Spanning}
+
+-- a span is open
+abbrev pub isOpen : ℕ → Bool
+isOpen first = not (eqb first 0)
+
+module _ (holds : ℕ → Bool) (now : ℕ) where
+  -- the spans from tick b on, with the one that is open at b
+  abbrev pub left : ℕ → ℕ → List Span
+  left first b = spansFrom holds first b (now - b)
+
+  -- one tick on
+  tick : (first b : ℕ) → b < now
+      → left first b ≡ cond (holds (suc b)) (left (openedAt first (suc b)) (suc b)) (endedAt first b ++ left 0 (suc b))
+  unfolding spansFrom
+  tick first b h = ap (spansFrom holds first b) (let e : now - b ≡ suc (now - suc b) = omega arith in e)
+
+  -- a tick that leaves the grant as it was
+  still : (first b : ℕ) → b < now → holds (suc b) ≡ isOpen first → left first b ≡ left first (suc b)
+  still zero b h e = tick zero b h ∙ rw e
+  still (suc f) b h e = tick (suc f) b h ∙ simp (e, eqb·suc-zero)
+
+  pub over : (first b t : ℕ) → b ≤ t → t ≤ now → ((u : ℕ) → b < u → u ≤ t → holds u ≡ isOpen first) → left first b ≡ left first t
+  over first b zero h k q = ap (left first) (let e : b ≡ 0 = omega arith in e)
+  over first b (suc t) h k q = ⊎-elim
+      (λ (e : b ≡ suc t). ap (left first) e)
+      (λ l. over first b t (omega arith) (omega arith) (λ u x y. q u x (omega arith)) ∙ still first t (omega arith) (q (suc t) l (omega arith)))
+      (eq-or-lt-of-le h)
+
+  -- the last tick
+  pub at-end : (first : ℕ) → left first now ≡ endedAt first now
+  unfolding spansFrom
+  at-end first = ap (spansFrom holds first now) (let e : now - now ≡ 0 = omega arith in e)
+
+  -- a tick with events, t, after quiet ones: what the turn does to the count and to the list
+  module _ (was : Spanning) (b t : ℕ) (later : b < t) (upto : t ≤ now) (quiet : (u : ℕ) → b < u → u < t → holds u ≡ isOpen (was .first)) where
+    here : left (was .first) b ≡ cond (holds t) (left (openedAt (was .first) t) t) (endedAt (was .first) (t - 1) ++ left 0 t)
+    here =
+        let e : suc (t - 1) ≡ t = omega arith in
+        over (was .first) b (t - 1) (omega arith) (omega arith) (λ u x y. quiet u x (omega arith))
+        ∙ tick (was .first) (t - 1) (omega arith)
+        ∙ ap (λ (k : ℕ). cond (holds k) (left (openedAt (was .first) k) k) (endedAt (was .first) (t - 1) ++ left 0 k)) e

@@ -1,0 +1,3 @@
+-- Laws of the spans.
+pub mod Exactly
+pub mod Left

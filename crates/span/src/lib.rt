@@ -1,0 +1,110 @@
+// When could a model read a sheet? From their strips and now, the spans of ticks in which the grant held, as pairs (first tick, last tick).
+ghost use mathlib.Core.Path.{_≡_};
+ghost use Prim.Native.Nat.{_+_, _≤_};
+ghost use lib.ListN.{length};
+ghost use Rattle.judge.specs.Judge.{Accepted};
+ghost use Rattle.span.specs.Answer.{spansIn, spansAnswer, listAfter};
+ghost use Rattle.span.specs.Steps.{pairAt, pairsFrom, ended, endedList, turned, turnedList};
+use judge::scan;
+
+// A refusal's number with its place, 0 where it has none, and count 0; or 0 and 0 with how many spans there are.
+#[repr(C)]
+pub struct SpansAnswer {
+    pub code: u32,
+    pub place: u32,
+    pub count: u32,
+}
+
+// The first tick of the span that is open, 0 where none is, and how many have ended.
+pub struct Spanning {
+    pub first: u32,
+    pub count: usize,
+}
+
+// Writes a pair at its place, where the list has room for it.
+fn write(list: &mut [u32], place: usize, first: u32, last: u32)
+    ensures { λ _. ⌜ list .exit .now ≡ pairAt (list .entry .now) place first last ⌝ }
+{
+    if place < list.len() / 2 {
+        list[2 * place] = first;
+        list[2 * place + 1] = last;
+    }
+}
+
+// Ends the open span, where one is open.
+fn end(list: &mut [u32], was: Spanning, last: u32) -> Spanning
+    requires { ⌜ was .count ≤ 65536 ⌝ }
+    ensures { λ r. ⌜ (r ≡ ended was) × (list .exit .now ≡ endedList (list .entry .now) was last) ⌝ }
+{
+    if was.first == 0 {
+        return was;
+    }
+    write(list, was.count, was.first, last);
+    Spanning {
+        first: 0,
+        count: was.count + 1,
+    }
+}
+
+// A tick with events: the grant holds after it, or not.
+fn turn(list: &mut [u32], was: Spanning, tick: u32, holds: bool) -> Spanning
+    requires { ⌜ (1 ≤ tick) × (was .count ≤ 65536) ⌝ }
+    ensures { λ r. ⌜ (r ≡ turned was tick holds) × (list .exit .now ≡ turnedList (list .entry .now) was tick holds) ⌝ }
+{
+    if holds {
+        if was.first == 0 {
+            return Spanning {
+                first: tick,
+                count: was.count,
+            };
+        }
+        return was;
+    }
+    end(list, was, tick - 1)
+}
+
+// One pass over both strips counts the spans, and writes those pairs for which the list has room.
+fn pairs(m: &[u32], s: &[u32], now: u32, list: &mut [u32]) -> usize
+    requires { ⌜ Accepted (m .now) (s .now) now ⌝ }
+    ensures { λ r. ⌜ (r ≡ length (spansIn (m .entry .now) (s .entry .now) now)) × (list .exit .now ≡ pairsFrom (list .entry .now) 0 (spansIn (m .entry .now) (s .entry .now) now)) ⌝ }
+{
+    let mut pass = scan::begin(m, s);
+    let mut spanning = Spanning { first: 0, count: 0 };
+    while pass.i + pass.j < m.len() + s.len() {
+        pass = scan::advance(m, s, pass);
+        let seen = pass.seen;
+        let standing = seen.standing;
+        spanning = turn(&mut *list, spanning, pass.tick, scan::holds(standing));
+    }
+    let last = end(list, spanning, now);
+    last.count
+}
+
+pub fn spans(m: &[u32], s: &[u32], now: u32, list: &mut [u32]) -> SpansAnswer
+    ensures { λ r. ⌜ (r ≡ spansAnswer (m .entry .now) (s .entry .now) now (length (list .entry .now))) × (list .exit .now ≡ listAfter (m .entry .now) (s .entry .now) now (list .entry .now)) ⌝ }
+{
+    let checked = judge::check::check(m, s, now);
+    if checked.code != 0 {
+        return SpansAnswer {
+            code: checked.code,
+            place: checked.place,
+            count: 0,
+        };
+    }
+    // With no room the pass only counts: nothing is written before it is known that all pairs fit.
+    let room: usize = 0;
+    let count = pairs(m, s, now, &mut list[0..room]);
+    if list.len() / 2 < count {
+        return SpansAnswer {
+            code: rules::TOO_MANY_SPANS,
+            place: 0,
+            count: 0,
+        };
+    }
+    pairs(m, s, now, list);
+    SpansAnswer {
+        code: 0,
+        place: 0,
+        count: count as u32,
+    }
+}
