@@ -1,11 +1,13 @@
 -- The loop of `pairs`: the pass over the strips, the span that is open, and what is left to write. Assumes nothing.
-use mathlib.Core.Path.{_≡_, sym, ap, _∙_, subst}
+use mathlib.Core.Path.{_≡_, refl, sym, ap, _∙_, subst}
 use mathlib.Core.Bool.{Bool, true, false}
 use mathlib.Core.List.{List}
-use Prim.Native.Nat.{ℕ, zero, suc, _+_, _-_, _≤_, _<_}
+use mathlib.Core.Logic.{⊎-elim}
+use Prim.Native.Nat.{ℕ, zero, suc, _+_, _-_, _/_, _≤_, _<_}
 use native.Mathlib.Omega.{arith}
-use lib.Dec.{eqb·suc-zero}
-use lib.ListN.{length}
+use lib.Dec.{eqb, ltb, eqb·suc-zero}
+use lib.ListN.{length, length-set}
+use Rattle.base.proofs.Truth.{either}
 use Rattle.formula.specs.Ticks.{grant}
 use Rattle.formula.proofs.Move.{grant-start}
 use Rattle.strip.specs.History.{historyOf}
@@ -18,9 +20,26 @@ use Rattle.judge.proofs.Standing.{scan-holds}
 use Rattle.span.specs.Answer.{spansIn}
 use Rattle.span.specs.Spans.{Span}
 use Rattle.span.specs.SpansOf.{endedAt, spansFrom}
-use Rattle.span.specs.Steps.{pairsFrom, turned, turnedList, ended, endedList}
+use Rattle.span.specs.Steps.{pairAt, pairsFrom, turned, turnedList, ended, endedList}
 use Rattle.span.specs.declared.Spanning.{Spanning}
 use Rattle.span.proofs.Left.{isOpen, left, over, at-end, turn-list, turn-count, turn-open, end-list, end-count}
+
+-- a list keeps its length
+long-pair : (list : List ℕ) (place first last : ℕ) → length (pairAt list place first last) ≡ length list
+long-pair list place first last = ⊎-elim
+    (λ (t : ltb place (length list / 2) ≡ true). rw t (simp length-set))
+    (λ (f : ltb place (length list / 2) ≡ false). rw f)
+    (either (ltb place (length list / 2)))
+
+pub long-ended : (list : List ℕ) (so : Spanning) (last : ℕ) → length (endedList list so last) ≡ length list
+long-ended list so last = ⊎-elim
+    (λ (t : eqb (so .first) 0 ≡ true). rw t)
+    (λ (f : eqb (so .first) 0 ≡ false). rw f (long-pair list (so .count) (so .first) last))
+    (either (eqb (so .first) 0))
+
+long-turned : (list : List ℕ) (so : Spanning) (t : ℕ) (g : Bool) → length (turnedList list so t g) ≡ length list
+long-turned list so t true = refl
+long-turned list so t false = long-ended list so (t - 1)
 
 module _ (m s : List ℕ) (now : ℕ) where
   abbrev holds : ℕ → Bool
@@ -33,6 +52,7 @@ module _ (m s : List ℕ) (now : ℕ) where
     -- no more spans than events
     pub few : so .count ≤ p .i + p .j
     pub count : length (spansIn m s now) ≡ so .count + length (left holds now (so .first) (p .tick))
+    pub long : length list ≡ length was
     pub pairs : pairsFrom was 0 (spansIn m s now) ≡ pairsFrom list (so .count) (left holds now (so .first) (p .tick))
 
   module _ (rm : Rising m) (rs : Rising s) where
@@ -44,6 +64,7 @@ module _ (m s : List ℕ) (now : ℕ) where
           opened = grant-start (historyOf m) (historyOf s);
           few = omega arith;
           count = ap length all ∙ (let e : length (left holds now 0 0) ≡ 0 + length (left holds now 0 0) = omega arith in e);
+          long = refl;
           pairs = ap (pairsFrom list 0) all;
         }
 
@@ -77,6 +98,7 @@ module _ (m s : List ℕ) (now : ℕ) where
               opened = turn-open so (q .tick) (holds (q .tick)) (omega (arith, t .later));
               few = omega (arith, more (so .first) (so .count) (holds (q .tick)), x .few, t .more);
               count = x .count ∙ turn-count holds now so (p .tick) (q .tick) (t .later) upto quiet;
+              long = long-turned list so (q .tick) (holds (q .tick)) ∙ x .long;
               pairs = x .pairs ∙ turn-list holds now so (p .tick) (q .tick) (t .later) upto quiet list;
             })
 
