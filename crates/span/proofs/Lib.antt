@@ -1,4 +1,6 @@
 -- Laws of the spans.
 pub mod Exactly
+pub mod Few
+pub mod Fit
 pub mod Going
 pub mod Left
