@@ -1,4 +1,5 @@
 -- Laws of the spans.
+pub mod Answers
 pub mod Exactly
 pub mod Few
 pub mod Fit

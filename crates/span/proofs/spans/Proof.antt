@@ -1,58 +1,108 @@
+-- The refusals are the check's, then 40; the first pass has no room and leaves the list, the second has room for all pairs.
+use mathlib.Core.Path.{_≡_, refl, sym, ap, _∙_}
+use mathlib.Core.Bool.{true, false}
+use mathlib.Core.List.{List, [], _++_}
+use Prim.Native.Nat.{ℕ, _*_, _<_, _≤_}
+use native.Mathlib.Omega.{arith}
+use lib.Dec.{ltb}
+use lib.ListN.{length}
+use borrow.Author.Tests.{lt-ltb, le-ltb}
+use Rattle.wire.specs.Put.{put}
+use Rattle.judge.specs.Checked as check
+use Rattle.judge.specs.Judge.{Accepted, checked}
+use Rattle.judge.specs.declared.check.Checked.{Checked}
+use Rattle.judge.proofs.Checked.{checks, check-accepts, check-refuses}
+use Rattle.span.specs.Answer.{flat, spansIn, crowded, refused, spansAnswer, listAfter}
+use Rattle.span.specs.Spans.{Span}
+use Rattle.span.specs.Steps.{pairsFrom}
+use Rattle.span.specs.declared.SpansAnswer.{SpansAnswer}
+use Rattle.span.proofs.Answers.{answer-refused, list-refused, answer-crowded, list-crowded, answer-given, list-given}
+use Rattle.span.proofs.Few.{spans-few}
+use Rattle.span.proofs.Fit.{no-room, all-put}
 use borrow.Author.Needs.{needs}
 use Rattle.span.proofs.spans.Statement.{statement}
 use Rattle.span.proofs.spans.Tie as tie
-use Rattle.span.proofs.spans.Reads as reads
-use Rattle.span.proofs.spans.Lts as lts
-use Rattle.judge.proofs.check.check.Reads as check-reads
-use Rattle.span.proofs.pairs.Reads as pairs-reads
 
--- src/lib.rt:86:9
 check-requires : tie.Need-check-requires
 check-requires c κs = search needs
 
--- src/lib.rt:88:9
 returns : tie.Need-returns
-returns c = ?
+returns c =
+    let e = c .before .before .check .ensures in
+    let a = c .before .before .before .before .before .before .args in
+    let n : checked (a .m .now) (a .s .now) (a .now) check.refused check.accepted .code ≡ 0 → ⊥ = λ z. c .if1 .taken (ap (λ (x : Checked). x .code) e ∙ z) in (
+      ap (λ (x : Checked). refused (x .code) (x .place)) e ∙ sym (answer-refused (a .m .now) (a .s .now) (a .now) n (length (a .list .now))),
+      sym (list-refused (a .m .now) (a .s .now) (a .now) n (a .list .now)),
+    )
 
--- src/lib.rt:96:34
+-- past the check no refusal of the strips applies
+accepted : (c : tie.Else1) → let a = c .before .before .before .before .before .before .args in Accepted (a .m .now) (a .s .now) (a .now)
+accepted c = check-accepts _ _ _ (sym (ap (λ (x : Checked). x .code) (c .before .before .check .ensures)) ∙ c .if1 .left)
+
 sub-pairs : tie.Need-sub-pairs
 sub-pairs c = search needs
 
--- src/lib.rt:96:34
 part-pairs-start : tie.Need-part-pairs-start
 part-pairs-start c = search needs
 
--- src/lib.rt:96:34
 part-pairs-end : tie.Need-part-pairs-end
 part-pairs-end c = search needs
 
--- src/lib.rt:96:9
 pairs-requires : tie.Need-pairs-requires
-pairs-requires c κs = ?
+pairs-requires c κs = accepted (c .before)
 
--- src/lib.rt:98:9
 same-length : tie.Need-same-length
 same-length c = search needs
 
--- src/lib.rt:98:9
+-- the list is back as it was lent, and the spans are counted
+back : (c : tie.After-pairs) → c .pairs .last .1 .1 .1 .0 ≡ []
+back c = c .pairs .ensures .1 ∙ no-room _ [] 0 (omega arith)
+
 returns-2 : tie.Need-returns-2
-returns-2 c = ?
+returns-2 c =
+    let p = c .before .before .before in
+    let b = p .before .before in
+    let a = b .before .before .before .before .before .before .args in
+    let x = accepted b in
+    let long = ap length (back p) in
+    let h : length (a .list .now) < 2 * length (spansIn (a .m .now) (a .s .now) (a .now)) = omega (arith, p .pairs .ensures .0, c .if2 .taken) in (
+      sym (answer-crowded (a .m .now) (a .s .now) (a .now) x (length (a .list .now)) h),
+      ap (λ (l : List ℕ). l ++ a .list .now) (back p) ∙ sym (list-crowded (a .m .now) (a .s .now) (a .now) x (a .list .now) h),
+    )
 
--- src/lib.rt:104:5
+-- all pairs fit
+fits : (c : tie.Else2)
+    → let a = c .before .before .before .before .before .before .before .before .before .before .before .args in 2 * length (spansIn (a .m .now) (a .s .now) (a .now)) ≤ length (a .list .now)
+fits c = let long = ap length (back (c .before .before .before)) in omega (arith, c .before .before .before .pairs .ensures .0, c .if2 .left)
+
 pairs-requires-2 : tie.Need-pairs-requires-2
-pairs-requires-2 c κs = ?
+pairs-requires-2 c κs = accepted (c .before .before .before .before .before .before)
 
--- src/lib.rt:108:16
 cast-t16 : tie.Need-cast-t16
-cast-t16 c = ?
+cast-t16 c =
+    let p = c .before .before .before .before .before .before .before in
+    let b = p .before .before in
+    let a = b .before .before .before .before .before .before .args in
+    let x = accepted b in
+    omega (arith, p .pairs .ensures .0, spans-few (a .m .now) (a .s .now) (a .now), x .short-m, x .short-s)
 
--- src/lib.rt:83:1
 same-length-2 : tie.Need-same-length-2
 same-length-2 c = search needs
 
--- src/lib.rt:83:1
 returns-3 : tie.Need-returns-3
-returns-3 c = ?
+returns-3 c =
+    let p = c .before .before .before .before .before .before .before in
+    let b = p .before .before in
+    let a = b .before .before .before .before .before .before .args in
+    let x = accepted b in
+    let all : List Span = spansIn (a .m .now) (a .s .now) (a .now) in
+    let h : 2 * length all ≤ length (a .list .now) = fits (c .before .before .before .before) in (
+      ap (λ (n : ℕ). record { code = 0; place = 0; count = n }) (p .pairs .ensures .0) ∙ sym (answer-given (a .m .now) (a .s .now) (a .now) x (length (a .list .now)) h),
+      c .before .before .pairs2 .ensures .1
+          ∙ ap (λ (l : List ℕ). pairsFrom (l ++ a .list .now) 0 all) (back p)
+          ∙ all-put all (a .list .now) 0 (omega arith)
+          ∙ sym (list-given (a .m .now) (a .s .now) (a .now) x (a .list .now) h),
+    )
 
 pub spans-spec : {M : Type 1} → statement M
 spans-spec =
