@@ -4,6 +4,7 @@ mod book_calls;
 mod deliver;
 mod gate;
 mod part;
+mod spans;
 
 ghost use mathlib.Core.Path.{_≡_};
 ghost use Prim.Native.Nat.{_+_, _*_, _/_, _^_, _<_, _≤_};
