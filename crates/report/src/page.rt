@@ -4,15 +4,15 @@ use libc::STDOUT_FILENO;
 pub struct Page {
     // the bytes in the buffer
     pub at: usize,
-    // the granted pairs so far
-    pub pairs: u32,
+    // the lines between the first and the last so far
+    pub lines: u32,
 }
 
 // No line is longer.
 const LINE: usize = 64;
 
 pub fn empty() -> Page {
-    Page { at: 0, pairs: 0 }
+    Page { at: 0, lines: 0 }
 }
 
 // Writes out what is in the buffer.
@@ -23,7 +23,7 @@ pub fn flush(out: &[u8], page: Page) -> Page {
     }
     Page {
         at: 0,
-        pairs: page.pairs,
+        lines: page.lines,
     }
 }
 
@@ -45,7 +45,7 @@ pub fn put(out: &mut [u8], page: Page, text: &[u8], number: u32) -> Page {
     let at = text::add_decimal(&mut *out, at, number as u64);
     Page {
         at,
-        pairs: page.pairs,
+        lines: page.lines,
     }
 }
 
@@ -57,26 +57,16 @@ pub fn end(out: &mut [u8], page: Page) -> Page {
         out,
         Page {
             at,
-            pairs: page.pairs,
+            lines: page.lines,
         },
     )
 }
 
-// The line of a granted pair.
-pub fn granted(
-    out: &mut [u8],
-    page: Page,
-    model: u32,
-    sheet: u32,
-    moment: &[u8],
-    tick: u32,
-) -> Page {
-    let page = put(&mut *out, page, b"", model);
-    let page = put(&mut *out, page, b" ", sheet);
-    let page = put(&mut *out, page, moment, tick);
+// Ends a line that is counted.
+pub fn end_counted(out: &mut [u8], page: Page) -> Page {
     let page = end(out, page);
     Page {
         at: page.at,
-        pairs: std::num::wrapping_add_u32(page.pairs, 1),
+        lines: std::num::wrapping_add_u32(page.lines, 1),
     }
 }

@@ -2,8 +2,8 @@ use borrow.Author.Needs.{needs}
 use Prim.Native.Nat.{_≤_, _-_}
 use mathlib.Core.Path.{_≡_}
 use lib.ListN.{length}
-use Rattle.listing.proofs.gather_sheets.Statement.{statement}
-use Rattle.listing.proofs.gather_sheets.Tie as tie
+use Rattle.report.proofs.gather_sheets.Statement.{statement}
+use Rattle.report.proofs.gather_sheets.Tie as tie
 
 abbrev Inv-loop : tie.InvT-loop
 Inv-loop words strips₀ ends₀ at₀ sheet₀ strips ends at sheet = (sheet ≤ 256) × (length strips ≡ length strips₀)

@@ -1,0 +1,119 @@
+// When could a model read a sheet? Lists the spans of a book, of every model and sheet or of those that the arguments name.
+mod ask;
+
+use ask::Asked;
+use libc::STDOUT_FILENO;
+use report::page;
+use report::page::Page;
+use strip::Side;
+
+// The two strips of a pair have no more words than a book has records, and that many numbers are always enough for their spans.
+const LIST: usize = rules::EVENTS;
+
+// The line of a span.
+fn line(out: &mut [u8], page: Page, model: u32, sheet: u32, first: u32, last: u32) -> Page {
+    let page = page::put(&mut *out, page, b"", model);
+    let page = page::put(&mut *out, page, b" ", sheet);
+    let page = page::put(&mut *out, page, b" ", first);
+    let page = page::put(&mut *out, page, b" ", last);
+    page::end_counted(out, page)
+}
+
+// The lines of one pair: the first `count` spans of the list.
+fn lines(
+    out: &mut [u8],
+    page: Page,
+    model: u32,
+    sheet: u32,
+    list: &[u32; LIST],
+    count: u32,
+) -> Page {
+    let mut page = page;
+    let mut k: usize = 0;
+    while (k < LIST / 2) & (k < count as usize) {
+        page = line(&mut *out, page, model, sheet, list[2 * k], list[2 * k + 1]);
+        k += 1;
+    }
+    page
+}
+
+// The lines of one model, by sheet.
+fn of_model(
+    out: &mut [u8],
+    page: Page,
+    asked: Asked,
+    model: u32,
+    strip: &[u32],
+    strips: &[u32],
+    ends: &[usize; report::ENDS],
+    list: &mut [u32; LIST],
+    now: u32,
+) -> Page {
+    let mut page = page;
+    for sheet in asked.sheets..asked.sheets_end {
+        let s = (sheet % rules::SHEETS) as usize;
+        let other = report::part(strips, ends[s], ends[s + 1]);
+        let told = span::spans(strip, other, now, &mut *list);
+        page = lines(&mut *out, page, model, sheet, &*list, told.count);
+    }
+    page
+}
+
+// The lines of the models that were asked for, by model.
+fn list_spans(out: &mut [u8], page: Page, asked: Asked, words: &[u32], now: u32) -> Page {
+    let mut strips = [0u32; rules::EVENTS];
+    let mut ends = [0usize; report::ENDS];
+    let mut list = [0u32; LIST];
+    report::gather_sheets(words, &mut strips, &mut ends);
+    let mut page = page;
+    for model in asked.models..asked.models_end {
+        let mut strip = [0u32; rules::EVENTS];
+        let n = gather::gather(words, Side::Model, model, &mut strip, 0);
+        page = of_model(
+            &mut *out,
+            page,
+            asked,
+            model,
+            report::part(&strip, 0, n),
+            &strips,
+            &ends,
+            &mut list,
+            now,
+        );
+    }
+    page
+}
+
+// The spans of a book that was read.
+fn listed(out: &mut [u8], asked: Asked, number: u32, ticks: u32, words: &[u32]) -> Page {
+    let page = report::header(&mut *out, number, ticks, words.len());
+    let page = list_spans(&mut *out, page, asked, words, ticks);
+    report::footer(out, page, b"spans ")
+}
+
+fn main() {
+    let asked = ask::asked();
+    if !asked.taken {
+        io::write_all(
+            STDOUT_FILENO,
+            b"usage: spans [MODEL [SHEET]] < BOOK, with MODEL 0 to 63 and SHEET 0 to 255\n",
+        );
+        return;
+    }
+    let mut words = [0u32; rules::EVENTS];
+    let mut out = [0u8; 65536];
+    let book = report::read_book(&mut words);
+    if book.code != 0 {
+        let page = report::refused(&mut out, book.code, book.place);
+        page::flush(&out, page);
+        return;
+    }
+    let page = listed(
+        &mut out,
+        asked,
+        book.number,
+        book.ticks,
+        report::part(&words, 0, book.records),
+    );
+    page::flush(&out, page);
+}
