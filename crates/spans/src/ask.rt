@@ -49,7 +49,7 @@ struct Range {
     end: u32,
 }
 
-fn range(i: usize, count: usize, limit: u32) -> Range {
+fn one_or_all(i: usize, count: usize, limit: u32) -> Range {
     if i >= count {
         return Range {
             first: 0,
@@ -66,10 +66,10 @@ fn range(i: usize, count: usize, limit: u32) -> Range {
     }
 }
 
-pub fn asked() -> Asked {
+pub fn arguments() -> Asked {
     let count = os::arg_count();
-    let models = range(1, count, rules::MODELS);
-    let sheets = range(2, count, rules::SHEETS);
+    let models = one_or_all(1, count, rules::MODELS);
+    let sheets = one_or_all(2, count, rules::SHEETS);
     Asked {
         taken: (count <= 3) & (models.first < models.end) & (sheets.first < sheets.end),
         models: models.first,

@@ -1,6 +1,7 @@
 // When could a model read a sheet? Lists the spans of a book, of every model and sheet or of those that the arguments name.
 mod ask;
 
+ghost use Prim.Native.Nat.{_≤_};
 use ask::Asked;
 use libc::STDOUT_FILENO;
 use report::page;
@@ -10,6 +11,13 @@ use strip::Side;
 // The two strips of a pair have no more words than a book has records, and that many numbers are always enough for their spans.
 const LIST: usize = rules::EVENTS;
 
+// An end that is no further than a limit.
+fn within(end: u32, limit: u32) -> u32
+    ensures { λ r. ⌜ r ≤ limit ⌝ }
+{
+    if end > limit { limit } else { end }
+}
+
 // The line of a span.
 fn line(out: &mut [u8], page: Page, model: u32, sheet: u32, first: u32, last: u32) -> Page {
     let page = page::put(&mut *out, page, b"", model);
@@ -17,6 +25,16 @@ fn line(out: &mut [u8], page: Page, model: u32, sheet: u32, first: u32, last: u3
     let page = page::put(&mut *out, page, b" ", first);
     let page = page::put(&mut *out, page, b" ", last);
     page::end_counted(out, page)
+}
+
+// How many pairs of the list are spans: as many as were counted, and never more than it has.
+fn pairs(count: u32) -> usize
+    ensures { λ r. ⌜ r ≤ 2048 ⌝ }
+{
+    if count as usize > LIST / 2 {
+        return LIST / 2;
+    }
+    count as usize
 }
 
 // The lines of one pair: the first `count` spans of the list.
@@ -29,10 +47,8 @@ fn lines(
     count: u32,
 ) -> Page {
     let mut page = page;
-    let mut k: usize = 0;
-    while (k < LIST / 2) & (k < count as usize) {
+    for k in 0..pairs(count) {
         page = line(&mut *out, page, model, sheet, list[2 * k], list[2 * k + 1]);
-        k += 1;
     }
     page
 }
@@ -50,8 +66,8 @@ fn of_model(
     now: u32,
 ) -> Page {
     let mut page = page;
-    for sheet in asked.sheets..asked.sheets_end {
-        let s = (sheet % rules::SHEETS) as usize;
+    for sheet in asked.sheets..within(asked.sheets_end, rules::SHEETS) {
+        let s = sheet as usize;
         let other = report::part(strips, ends[s], ends[s + 1]);
         let told = span::spans(strip, other, now, &mut *list);
         page = lines(&mut *out, page, model, sheet, &*list, told.count);
@@ -66,7 +82,7 @@ fn list_spans(out: &mut [u8], page: Page, asked: Asked, words: &[u32], now: u32)
     let mut list = [0u32; LIST];
     report::gather_sheets(words, &mut strips, &mut ends);
     let mut page = page;
-    for model in asked.models..asked.models_end {
+    for model in asked.models..within(asked.models_end, rules::MODELS) {
         let mut strip = [0u32; rules::EVENTS];
         let n = gather::gather(words, Side::Model, model, &mut strip, 0);
         page = of_model(
@@ -92,7 +108,7 @@ fn listed(out: &mut [u8], asked: Asked, number: u32, ticks: u32, words: &[u32]) 
 }
 
 fn main() {
-    let asked = ask::asked();
+    let asked = ask::arguments();
     if !asked.taken {
         io::write_all(
             STDOUT_FILENO,
