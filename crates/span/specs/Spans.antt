@@ -1,4 +1,5 @@
 -- When the grant held: what it is for a list of pairs to be the spans of two histories up to now. proofs/Exactly.antt shows that exactly one list is.
+use mathlib.Core.Path.{_≡_}
 use mathlib.Core.List.{List, [], _∷_}
 use mathlib.Core.Logic.{_⊎_, _↔_}
 use Prim.Native.Nat.{ℕ, suc, _≤_, _<_}
@@ -23,3 +24,17 @@ LiesIn t (p ∷ l) = ((p .first ≤ t) × (t ≤ p .last)) ⊎ LiesIn t l
 pub record Spans (model sheet : History) (now : ℕ) (l : List Span) : Type 0 where
   pub apart : Apart 0 now l
   pub exactly : (t : ℕ) → 1 ≤ t → t ≤ now → LiesIn t l ↔ Grant model sheet t
+
+-- the last of the pairs
+unfoldable pub LastIs : List Span → Span → Type 0
+LastIs [] q = ⊥
+LastIs (p ∷ []) q = p ≡ q
+LastIs (p ∷ (r ∷ l)) q = LastIs (r ∷ l) q
+
+-- the last span is open at now, and tick t lies in it
+pub record OpenSince (l : List Span) (now t : ℕ) : Type 0 where
+  pub span : Span
+  pub last : LastIs l span
+  pub ends : span .last ≡ now
+  pub begins : span .first ≤ t
+  pub before : t ≤ now
