@@ -5,6 +5,7 @@ pub mod Carried
 pub mod Closes
 pub mod Gate
 pub mod Keep
+pub mod Later
 pub mod Requests
 pub mod Runs
 pub mod Sides
