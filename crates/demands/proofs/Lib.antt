@@ -1,4 +1,4 @@
--- The three demands: One.antt, Two.antt and Three.antt state them. Once.antt: a promise determines its answer. The others stand behind these.
+-- The three demands: One.antt, Two.antt and Three.antt state them. Once.antt: a promise determines its answer. Spans.antt: the list of the spans is what the gate did. The others stand behind these.
 pub mod Alike
 pub mod Counted
 pub mod Gates
@@ -11,7 +11,9 @@ pub mod Refused
 pub mod RefusedBook
 pub mod RefusedDelivery
 pub mod RefusedJudge
+pub mod RefusedSpans
 pub mod Seen
 pub mod Shared
+pub mod Spans
 pub mod Three
 pub mod Two

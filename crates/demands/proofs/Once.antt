@@ -38,8 +38,12 @@ use Rattle.group.specs.declared.CountAnswer.{CountAnswer}
 use Rattle.group.specs.declared.Group.{Group}
 use Rattle.group.specs.declared.ReadAnswer.{ReadAnswer}
 use Rattle.group.specs.declared.Settled.{Settled}
-use Rattle.judge.specs.Judge.{judgedBy}
+use Rattle.judge.specs.Checked as check
+use Rattle.judge.specs.Judge.{checked, judgedBy}
+use Rattle.judge.specs.declared.check.Checked.{Checked}
 use Rattle.judge.proofs.Promise.{Meets, one-evidence}
+use Rattle.span.specs.Answer.{spansAnswer, listAfter}
+use Rattle.span.specs.declared.SpansAnswer.{SpansAnswer}
 use Rattle.station.specs.Mask.{maskAnswer}
 use Rattle.station.specs.declared.MaskAnswer.{MaskAnswer}
 use Rattle.store.specs.Answer.{answer, bufferAfter}
@@ -68,6 +72,10 @@ pub record PromisesDetermine : Type 0 where
   pub judge : (m s : List ℕ) (now : ℕ) → Once Verdict (λ r. r ≡ judgedBy m s now)
   pub judge-bytes : (m s : List ℕ) (now : ℕ) → Once ℕ (λ r. r ≡ packed (judgedFrom m s now))
   pub evidence : (m s : RefT (List ℕ)) (now : ℕ) (r t : RefT (List ℕ)) → Meets m s now r → Meets m s now t → (r .now ≡ t .now) × (r .ptr ≡ t .ptr)
+  -- the check of two strips, and the spans with their list; from C they are the same
+  pub check : (m s : List ℕ) (now : ℕ) → Once Checked (λ r. r ≡ checked m s now check.refused check.accepted)
+  pub spans : (m s : List ℕ) (now : ℕ) (list : List ℕ)
+      → Once (SpansAnswer × List ℕ) (λ r. (r .0 ≡ spansAnswer m s now (length list)) × (r .1 ≡ listAfter m s now list))
   -- a delivery, with its buffer
   pub delivery : (grants : List ℕ) (m : ℕ) (store out : List ℕ) → Once (Delivery × List ℕ) (λ r. Promised grants m store out (r .0) (r .1))
   -- the book: reader with its word list, writer with its buffer, and the records of one tick: the same words at the same place
@@ -129,6 +137,8 @@ promises-determine = record {
   judge = λ m s now. one (judgedBy m s now);
   judge-bytes = λ m s now. one (packed (judgedFrom m s now));
   evidence = one-evidence;
+  check = λ m s now. one (checked m s now check.refused check.accepted);
+  spans = λ m s now list. two (spansAnswer m s now (length list)) (listAfter m s now list);
   delivery = λ grants m store out. two _ _;
   reader = λ b list. two (bookRead b (length list)) (listRead b list);
   writer = λ T n ws buffer. two (bookWritten T n ws (length buffer)) (bufferWritten T n ws buffer);

@@ -9,7 +9,7 @@ use mathlib.Core.List.{List, [], _∷_}
 use mathlib.Core.Logic.{_⊎_}
 use Prim.Native.Nat.{ℕ, _+_, _*_, _^_}
 use lib.ListN.{length, getD}
-use Rattle.rules.specs.Refusals.{badKind, badNumber, noTickLeft, secondEvent, alreadyIn, notIn, badList, badGroup, lateNow, longModel, longSheet, badModel, badSheet, badLength, badTotal, badHeader, badCount, badRecord, notRising, illFormed, shortBuffer, shortList, badStore, notInStore, badEntry, deliveryTooLong}
+use Rattle.rules.specs.Refusals.{badKind, badNumber, noTickLeft, secondEvent, alreadyIn, notIn, badList, badGroup, lateNow, longModel, longSheet, badModel, badSheet, badLength, badTotal, badHeader, badCount, badRecord, notRising, illFormed, shortBuffer, shortList, badStore, notInStore, badEntry, deliveryTooLong, tooManySpans}
 use Rattle.ferrulebee.specs.Judge.{packed, judgedFrom}
 use Rattle.group.specs.Close.{closeAnswer}
 use Rattle.group.specs.Count.{countAnswer}
@@ -19,23 +19,25 @@ use Rattle.group.specs.Request.{requestAnswer}
 use Rattle.group.specs.declared.Group.{Group}
 use Rattle.judge.specs.Evidence.{evidenceOf}
 use Rattle.judge.specs.Judge.{judgedBy}
+use Rattle.span.specs.Answer.{spansAnswer, listAfter}
 use Rattle.station.specs.Mask.{maskAnswer}
 use Rattle.store.specs.Answer.{answer, bufferAfter}
 use Rattle.book.specs.Read.{bookRead, listRead}
 use Rattle.book.specs.Write.{bookWritten, bufferWritten}
 use Rattle.demands.specs.Lines.{at, none, plain, Line, unmet, firstMet, Met, Refuses}
-use Rattle.demands.specs.Refusals.{freshLines, requestLines, closeLines, readLines, countLines, maskLines, judgeLines, bytesLines, refusedVerdict, readerLines, writerLines, deliveryLines, refusedDelivery}
+use Rattle.demands.specs.Refusals.{freshLines, requestLines, closeLines, readLines, countLines, maskLines, judgeLines, bytesLines, spansLines, refusedVerdict, readerLines, writerLines, deliveryLines, refusedDelivery}
 use Rattle.demands.proofs.Lines.{NoneMet, met-first, none-first, met-or-none}
 use Rattle.demands.proofs.Refused.{fresh-refuses, request-refuses, close-refuses, read-refuses, count-refuses, mask-refuses}
 use Rattle.demands.proofs.RefusedBook.{reader-refuses, writer-refuses}
 use Rattle.demands.proofs.RefusedJudge.{judge-refuses, bytes-refuses}
+use Rattle.demands.proofs.RefusedSpans.{spans-refuses}
 use Rattle.demands.proofs.RefusedDelivery.{delivery-refuses}
 
 pub record DemandOne : Type 0 where
   -- document 01's numbers
   pub numbers : badKind ∷ badNumber ∷ noTickLeft ∷ secondEvent ∷ alreadyIn ∷ notIn ∷ badList ∷ badGroup ∷ lateNow ∷ longModel ∷ longSheet ∷ badModel
-      ∷ badSheet ∷ badLength ∷ badTotal ∷ badHeader ∷ badCount ∷ badRecord ∷ notRising ∷ illFormed ∷ shortBuffer ∷ shortList ∷ badStore ∷ notInStore ∷ badEntry ∷ deliveryTooLong ∷ []
-      ≡ 1 ∷ 2 ∷ 3 ∷ 4 ∷ 5 ∷ 6 ∷ 7 ∷ 9 ∷ 10 ∷ 11 ∷ 12 ∷ 13 ∷ 14 ∷ 20 ∷ 21 ∷ 22 ∷ 23 ∷ 24 ∷ 25 ∷ 26 ∷ 27 ∷ 28 ∷ 31 ∷ 32 ∷ 33 ∷ 34 ∷ []
+      ∷ badSheet ∷ badLength ∷ badTotal ∷ badHeader ∷ badCount ∷ badRecord ∷ notRising ∷ illFormed ∷ shortBuffer ∷ shortList ∷ badStore ∷ notInStore ∷ badEntry ∷ deliveryTooLong ∷ tooManySpans ∷ []
+      ≡ 1 ∷ 2 ∷ 3 ∷ 4 ∷ 5 ∷ 6 ∷ 7 ∷ 9 ∷ 10 ∷ 11 ∷ 12 ∷ 13 ∷ 14 ∷ 20 ∷ 21 ∷ 22 ∷ 23 ∷ 24 ∷ 25 ∷ 26 ∷ 27 ∷ 28 ∷ 31 ∷ 32 ∷ 33 ∷ 34 ∷ 40 ∷ []
   -- "Each is given exactly when its line is met and no earlier one is": what the first line met is, for any lines
   pub given : (lines : List Line) (i : ℕ) → Met lines i → firstMet lines ≡ getD lines i unmet .refusal
   pub nothing : (lines : List Line) → NoneMet lines → firstMet lines ≡ none
@@ -53,6 +55,9 @@ pub record DemandOne : Type 0 where
   pub judge : (m s : List ℕ) (now : ℕ) → Refuses (judgeLines m s now) (refusedVerdict (judgedBy m s now)) (evidenceOf (judgedBy m s now) m s ≡ [])
   pub judge-bytes : (m s : List ℕ) (now : ℕ) → let refusal = refusedVerdict (judgedFrom m s now) in
       Refuses (bytesLines m s now) refusal (packed (judgedFrom m s now) ≡ refusal .number * 2 ^ 32 + refusal .place)
+  -- refused spans leave every number of the list
+  pub spans : (m s : List ℕ) (now : ℕ) (list : List ℕ) → let r = spansAnswer m s now (length list) in
+      Refuses (spansLines m s now (length list)) (at (r .code) (r .place)) (listAfter m s now list ≡ list)
   -- "A refused book yields a fresh group 0", and leaves the word list; a refused writing leaves every byte of the buffer
   pub reader : (b list : List ℕ) → let r = bookRead b (length list) in
       Refuses (readerLines b (length list)) (at (r .code) (r .place)) ((r .group ≡ freshGroup 0) × (listRead b list ≡ list))
@@ -76,6 +81,7 @@ demand-one = record {
   mask = mask-refuses;
   judge = judge-refuses;
   judge-bytes = bytes-refuses;
+  spans = spans-refuses;
   reader = reader-refuses;
   writer = writer-refuses;
   delivery = delivery-refuses;

@@ -61,7 +61,7 @@ module _ (side : Side) (now : ℕ) (s : List ℕ) (number : ℕ) where
   unfolding firstMet
   bad-told i t = simp t
 
-  strip-first : (rest : List Line)
+  pub strip-first : (rest : List Line)
       → firstMet (stripLines side now s number ++ rest) ≡ cond (ltb (firstBad side now s) (length s)) (at number (firstBad side now s)) (firstMet rest)
   unfolding firstBad
   strip-first rest = first-each (λ i. line (bad i) (at number i) ∷ []) bad (at number) bad-met bad-told (length s) rest

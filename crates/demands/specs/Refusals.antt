@@ -1,14 +1,14 @@
 -- Document 01's table of refusals and its order, call by call: "request 1, 2, 3, 4, then 5 or 6; close 3; read and count of models 2; list 7, 2;
 -- judge 10 to 14; reader 20 to 23, 28, then record by record 24, 25, 26; writer 22, 27, then the records likewise; delivery 2, 31, then granted
--- sheets by rising number 32, 33, then 34. 32 and 33 name the sheet."
+-- sheets by rising number 32, 33, then 34. 32 and 33 name the sheet." Document 02's R-1 adds the spans.
 use mathlib.Core.Bool.{not, _&&_, _||_}
 use mathlib.Core.List.{List, [], _∷_, _++_}
-use Prim.Native.Nat.{ℕ}
+use Prim.Native.Nat.{ℕ, _*_}
 use lib.Dec.{eqb, ltb, leb}
 use lib.ListN.{length, getD}
 use Rattle.rules.specs.Kinds.{LR}
 use Rattle.rules.specs.Ranges.{models, sheets, groups, ticks, events, bookHeader, longestBook}
-use Rattle.rules.specs.Refusals.{badKind, badNumber, noTickLeft, secondEvent, alreadyIn, notIn, badList, badGroup, lateNow, longModel, longSheet, badModel, badSheet, badLength, badTotal, badHeader, badCount, badRecord, notRising, illFormed, shortBuffer, shortList, badStore, notInStore, badEntry, deliveryTooLong}
+use Rattle.rules.specs.Refusals.{badKind, badNumber, noTickLeft, secondEvent, alreadyIn, notIn, badList, badGroup, lateNow, longModel, longSheet, badModel, badSheet, badLength, badTotal, badHeader, badCount, badRecord, notRising, illFormed, shortBuffer, shortList, badStore, notInStore, badEntry, deliveryTooLong, tooManySpans}
 use Rattle.strip.specs.declared.Side.{Side}
 use Rattle.strip.specs.declared.Side.the-variants.{Model, Sheet}
 use Rattle.strip.specs.Good.{goodPlace}
@@ -16,6 +16,7 @@ use Rattle.formula.specs.declared.Verdict.{Verdict}
 use Rattle.formula.specs.declared.Verdict.the-variants as verdict
 use Rattle.wire.specs.Words.{wordsIn}
 use Rattle.ferrulebee.specs.Judge.{wholeStrip}
+use Rattle.span.specs.Answer.{spansIn}
 use Rattle.group.specs.Carrier.{carriers, entering}
 use Rattle.group.specs.Marks.{carrierMarked, carrierIn}
 use Rattle.group.specs.declared.Group.{Group}
@@ -79,6 +80,10 @@ bytesLines m s now =
     ∷ line (not (wholeStrip (length m))) (plain longModel)
     ∷ line (not (wholeStrip (length s))) (plain longSheet)
     ∷ (stripLines Model now (wordsIn m) badModel ++ stripLines Sheet now (wordsIn s) badSheet)
+
+-- "10 to 14 as for the judge, then 40 if the pairs don't fit"
+abbrev pub spansLines : List ℕ → List ℕ → ℕ → ℕ → List Line
+spansLines m s now room = judgeLines m s now ++ (line (ltb room (2 * length (spansIn m s now))) (plain tooManySpans) ∷ [])
 
 abbrev pub refusedVerdict : Verdict → Refusal
 refusedVerdict (verdict.Granted moment) = none
