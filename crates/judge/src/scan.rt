@@ -1,6 +1,7 @@
 // One pass over both strips in tick order. Ticks without events cost nothing: they move nothing.
 ghost use mathlib.Core.Path.{_≡_};
-ghost use Prim.Native.Nat.{ℕ, _≤_};
+ghost use mathlib.Core.Bool.{cond};
+ghost use Prim.Native.Nat.{ℕ, _+_, _≤_};
 ghost use lib.ListN.{length};
 ghost use Rattle.rules.specs.Ranges.{events};
 ghost use Rattle.strip.specs.History.{historyOf};
@@ -32,12 +33,10 @@ pub struct Head {
     pub kind: u32,
 }
 
-// Where the pass stands: the places of the next events, what these are, the last tick taken, and what is known after it.
+// Where the pass stands: the places of the next events, the last tick taken, and what is known after it.
 pub struct Pass {
     pub i: usize,
     pub j: usize,
-    pub model: Head,
-    pub sheet: Head,
     pub tick: u32,
     pub seen: Seen,
 }
@@ -127,14 +126,12 @@ fn next_event(s: &[u32], i: usize) -> Head
 }
 
 // Before the first tick.
-pub fn begin(m: &[u32], s: &[u32]) -> Pass
-    ensures { λ r. ⌜ r ≡ begun (m .entry .now) (s .entry .now) ⌝ }
+pub fn begin() -> Pass
+    ensures { λ r. ⌜ r ≡ begun ⌝ }
 {
     Pass {
         i: 0,
         j: 0,
-        model: next_event(m, 0),
-        sheet: next_event(s, 0),
         tick: 0,
         seen: Seen {
             inside: false,
@@ -144,45 +141,44 @@ pub fn begin(m: &[u32], s: &[u32]) -> Pass
     }
 }
 
-// Takes the events of the next tick that has any.
+// Of two numbers the first where the test holds, else the second.
+fn pick(when: bool, a: u32, b: u32) -> u32
+    ensures { λ r. ⌜ r ≡ cond when a b ⌝ }
+{
+    if when { a } else { b }
+}
+
+fn place_after(i: usize, taken: bool) -> usize
+    requires { ⌜ i ≤ 4096 ⌝ }
+    ensures { λ r. ⌜ r ≡ cond taken (i + 1) i ⌝ }
+{
+    if taken {
+        return i + 1;
+    }
+    i
+}
+
+// Takes the events of the next tick that has any, of one strip or of both. One step for all three cases, and no branch among them: which strip comes next can't be guessed.
 pub fn advance(m: &[u32], s: &[u32], pass: Pass) -> Pass
-    requires { ⌜ (pass .i ≤ length (m .now)) × (pass .j ≤ length (s .now)) ⌝ }
+    requires { ⌜ (pass .i ≤ events) × (pass .j ≤ events) ⌝ }
     ensures { λ r. ⌜ r ≡ advanced (m .entry .now) (s .entry .now) pass ⌝ }
 {
-    let model = pass.model;
-    let sheet = pass.sheet;
+    let model = next_event(m, pass.i);
+    let sheet = next_event(s, pass.j);
+    let of_model = model.tick <= sheet.tick;
+    let of_sheet = sheet.tick <= model.tick;
+    let tick = pick(of_model, model.tick, sheet.tick);
     let seen = pass.seen;
-    if model.tick < sheet.tick {
-        let i = pass.i + 1;
-        return Pass {
-            i,
-            j: pass.j,
-            model: next_event(m, i),
-            sheet,
-            tick: model.tick,
-            seen: step(seen, model.tick, model.kind, rules::QUIET),
-        };
-    }
-    if sheet.tick < model.tick {
-        let j = pass.j + 1;
-        return Pass {
-            i: pass.i,
-            j,
-            model,
-            sheet: next_event(s, j),
-            tick: sheet.tick,
-            seen: step(seen, sheet.tick, rules::QUIET, sheet.kind),
-        };
-    }
-    let i = pass.i + 1;
-    let j = pass.j + 1;
     Pass {
-        i,
-        j,
-        model: next_event(m, i),
-        sheet: next_event(s, j),
-        tick: model.tick,
-        seen: step(seen, model.tick, model.kind, sheet.kind),
+        i: place_after(pass.i, of_model),
+        j: place_after(pass.j, of_sheet),
+        tick,
+        seen: step(
+            seen,
+            tick,
+            pick(of_model, model.kind, rules::QUIET),
+            pick(of_sheet, sheet.kind, rules::QUIET),
+        ),
     }
 }
 
@@ -190,7 +186,7 @@ pub fn scan(m: &[u32], s: &[u32]) -> Seen
     requires { ⌜ Rising (m .now) × Rising (s .now) × (length (m .now) ≤ events) × (length (s .now) ≤ events) ⌝ }
     ensures { λ r. ⌜ ((n : ℕ) → UpTo n (m .entry .now) → UpTo n (s .entry .now) → r ≡ scanTo (historyOf (m .entry .now)) (historyOf (s .entry .now)) n) ⌝ }
 {
-    let mut pass = begin(m, s);
+    let mut pass = begin();
     while pass.i + pass.j < m.len() + s.len() {
         pass = advance(m, s, pass);
     }

@@ -68,7 +68,7 @@ fn pairs(m: &[u32], s: &[u32], now: u32, list: &mut [u32]) -> usize
     requires { ⌜ Accepted (m .now) (s .now) now ⌝ }
     ensures { λ r. ⌜ (r ≡ length (spansIn (m .entry .now) (s .entry .now) now)) × (list .exit .now ≡ pairsFrom (list .entry .now) 0 (spansIn (m .entry .now) (s .entry .now) now)) ⌝ }
 {
-    let mut pass = scan::begin(m, s);
+    let mut pass = scan::begin();
     let mut spanning = Spanning { first: 0, count: 0 };
     while pass.i + pass.j < m.len() + s.len() {
         pass = scan::advance(m, s, pass);
@@ -78,6 +78,17 @@ fn pairs(m: &[u32], s: &[u32], now: u32, list: &mut [u32]) -> usize
     }
     let last = end(list, spanning, now);
     last.count
+}
+
+fn given(count: usize) -> SpansAnswer
+    requires { ⌜ count ≤ 65536 ⌝ }
+    ensures { λ r. ⌜ r ≡ record { code = 0; place = 0; count = count } ⌝ }
+{
+    SpansAnswer {
+        code: 0,
+        place: 0,
+        count: count as u32,
+    }
 }
 
 pub fn spans(m: &[u32], s: &[u32], now: u32, list: &mut [u32]) -> SpansAnswer
@@ -91,6 +102,10 @@ pub fn spans(m: &[u32], s: &[u32], now: u32, list: &mut [u32]) -> SpansAnswer
             count: 0,
         };
     }
+    // As many numbers as the strips have words are always enough.
+    if list.len() >= m.len() + s.len() {
+        return given(pairs(m, s, now, list));
+    }
     // With no room the pass only counts: nothing is written before it is known that all pairs fit.
     let room: usize = 0;
     let count = pairs(m, s, now, &mut list[0..room]);
@@ -101,10 +116,5 @@ pub fn spans(m: &[u32], s: &[u32], now: u32, list: &mut [u32]) -> SpansAnswer
             count: 0,
         };
     }
-    pairs(m, s, now, list);
-    SpansAnswer {
-        code: 0,
-        place: 0,
-        count: count as u32,
-    }
+    given(pairs(m, s, now, list))
 }

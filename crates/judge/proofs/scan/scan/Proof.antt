@@ -33,7 +33,10 @@ add-if1-2 : tie.Need-add-if1-2 Inv-loop μ-loop
 add-if1-2 c = search needs
 
 advance-requires : tie.Need-advance-requires Inv-loop μ-loop
-advance-requires c κs = (c .before .before .loop .inv .model .inside, c .before .before .loop .inv .sheet .inside)
+advance-requires c κs =
+    let x = c .before .before .loop .inv in
+    let pre = c .before .before .before .before .before .before .pre in
+    (omega (arith, x .model .inside, pre .2), omega (arith, x .sheet .inside, pre .3))
 
 turned : (c : tie.After-advance Inv-loop μ-loop)
     → let at = c .before .before .before in let a = at .before .before .before .before .args in Turned (a .m .now) (a .s .now) (at .loop .pass) (c .advance .result)
