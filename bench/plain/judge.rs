@@ -101,38 +101,19 @@ fn first_bad<W: Word>(strip: &[W], side: u32, now: u32) -> Option<usize> {
 }
 
 /// Past a strip's end: above every tick.
-const NO_TICK: u32 = u32::MAX;
-const NO_KIND: u32 = 8;
+pub const NO_TICK: u32 = u32::MAX;
+pub const NO_KIND: u32 = 8;
 
 /// The verdict on two good strips.
 pub fn judge<W: Word>(model: &[W], sheet: &[W]) -> Verdict {
-    let mut verdict = Verdict::Denied(Cause::None);
-    turns(model, sheet, |_, turn| match turn {
-        Turn::Moment(moment) => verdict = Verdict::Granted(moment),
-        Turn::End(cause) if matches!(verdict, Verdict::Granted(_)) => {
-            verdict = Verdict::Denied(cause);
-        }
-        _ => {}
-    });
-    verdict
-}
-
-/// What a tick does to the grant; an end is one where there is a grant.
-pub enum Turn {
-    Moment(Moment),
-    End(Cause),
-    Nothing,
-}
-
-/// Tells what each tick that has events does, for two good strips.
-pub fn turns<W: Word>(model: &[W], sheet: &[W], mut tell: impl FnMut(u32, Turn)) {
     let (mut models, mut sheets) = (Events::of(model), Events::of(sheet));
     let mut member = false;
     let mut liberal = false;
+    let mut verdict = Verdict::Denied(Cause::None);
     loop {
         let now = models.tick.min(sheets.tick);
         if now == NO_TICK {
-            return;
+            return verdict;
         }
         let (model, sheet) = (models.take(now), sheets.take(now));
         match model {
@@ -145,30 +126,29 @@ pub fn turns<W: Word>(model: &[W], sheet: &[W], mut tell: impl FnMut(u32, Turn))
             SA | NO_KIND => {}
             _ => liberal = false,
         }
-        let turn = if member && (sheet == SA || sheet == LA) {
-            Turn::Moment(Moment::ByAdd(now))
+        if member && (sheet == SA || sheet == LA) {
+            verdict = Verdict::Granted(Moment::ByAdd(now));
         } else if model == LJ && liberal {
-            Turn::Moment(Moment::ByJoin(now))
-        } else if model == SL {
-            Turn::End(Cause::StrictLeave)
-        } else if sheet == SR {
-            Turn::End(Cause::StrictRemove)
-        } else {
-            Turn::Nothing
-        };
-        tell(now, turn);
+            verdict = Verdict::Granted(Moment::ByJoin(now));
+        } else if matches!(verdict, Verdict::Granted(_)) {
+            if model == SL {
+                verdict = Verdict::Denied(Cause::StrictLeave);
+            } else if sheet == SR {
+                verdict = Verdict::Denied(Cause::StrictRemove);
+            }
+        }
     }
 }
 
 /// A strip's events from the one that comes next.
-struct Events<'a, W> {
+pub struct Events<'a, W> {
     rest: std::slice::Iter<'a, W>,
-    tick: u32,
+    pub tick: u32,
     kind: u32,
 }
 
 impl<'a, W: Word> Events<'a, W> {
-    fn of(strip: &'a [W]) -> Self {
+    pub fn of(strip: &'a [W]) -> Self {
         let mut events = Events { rest: strip.iter(), tick: 0, kind: NO_KIND };
         events.advance();
         events
@@ -182,7 +162,7 @@ impl<'a, W: Word> Events<'a, W> {
     }
 
     /// The kind of the event in this tick, if there is one.
-    fn take(&mut self, now: u32) -> u32 {
+    pub fn take(&mut self, now: u32) -> u32 {
         if self.tick != now {
             return NO_KIND;
         }
