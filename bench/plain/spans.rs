@@ -120,11 +120,30 @@ fn print(
     for model in models {
         for sheet in sheets.clone() {
             let count = pass::<true>(&model_strips[model], &sheet_strips[sheet], ticks, &mut list);
-            for [first, last] in &list[..count] {
-                writeln!(out, "{model} {sheet} {first} {last}")?;
+            for &[first, last] in &list[..count] {
+                put(model as u32, b' ', out);
+                put(sheet as u32, b' ', out);
+                put(first, b' ', out);
+                put(last, b'\n', out);
             }
             spans += count;
         }
     }
     writeln!(out, "spans {spans}")
+}
+
+/// A number and what follows it. A full book has many spans: with `writeln!` the program would take half
+/// as long again.
+fn put(mut number: u32, end: u8, out: &mut Vec<u8>) {
+    let mut digits = [end; 11];
+    let mut at = digits.len() - 1;
+    loop {
+        at -= 1;
+        digits[at] = b'0' + (number % 10) as u8;
+        number /= 10;
+        if number == 0 {
+            break;
+        }
+    }
+    out.extend_from_slice(&digits[at..]);
 }
