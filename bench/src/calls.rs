@@ -97,7 +97,8 @@ fn spans_of(setting: &Setting, pairs: u64, strips: fn(&mut Dice) -> Strips) -> V
     let mut plain_list = vec![7; 2 * EVENTS];
     for pair in &pairs {
         let answer = gate::spans(&pair.model, &pair.sheet, work::NOW, &mut gate_list);
-        let count = spans(&pair.model, &pair.sheet, work::NOW, &mut plain_list).expect("good strips");
+        let count =
+            spans(&pair.model, &pair.sheet, work::NOW, &mut plain_list).expect("good strips");
         let got = (answer.code, answer.place, answer.count as usize);
         assert_eq!(got, (0, 0, count), "the counts of spans differ");
         assert_eq!(gate_list, plain_list, "the lists of spans differ");

@@ -13,7 +13,9 @@ fn main() -> io::Result<()> {
     let arguments: Vec<OsString> = std::env::args_os().skip(1).collect();
     let Some((models, sheets)) = asked(&arguments) else {
         let (model, sheet) = (MODELS - 1, SHEETS - 1);
-        println!("usage: spans [MODEL [SHEET]] < BOOK, with MODEL 0 to {model} and SHEET 0 to {sheet}");
+        println!(
+            "usage: spans [MODEL [SHEET]] < BOOK, with MODEL 0 to {model} and SHEET 0 to {sheet}"
+        );
         return Ok(());
     };
     let mut bytes = Vec::with_capacity(LONGEST + 1);
