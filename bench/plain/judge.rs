@@ -1,4 +1,4 @@
-//! The judge: checks both strips, then one pass over their ticks. The spans share both.
+//! The judge: checks both strips, then one pass over their ticks. The spans share the checks.
 
 use crate::event::{enters, kind, number, numbers, tick, EVENTS, LA, LJ, SA, SJ, SL, SR, TICKS};
 use crate::refusal::{refused, refused_at, Refusal};
@@ -104,7 +104,9 @@ fn first_bad<W: Word>(strip: &[W], side: u32, now: u32) -> Option<usize> {
 pub const NO_TICK: u32 = u32::MAX;
 pub const NO_KIND: u32 = 8;
 
-/// The verdict on two good strips.
+/// The verdict on two good strips. Not inlined, so that the loop has the registers to itself: it is a tenth
+/// faster.
+#[inline(never)]
 pub fn judge<W: Word>(model: &[W], sheet: &[W]) -> Verdict {
     let (mut models, mut sheets) = (Events::of(model), Events::of(sheet));
     let mut member = false;

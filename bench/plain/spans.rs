@@ -36,8 +36,8 @@ pub fn spans(model: &[u32], sheet: &[u32], now: u32, list: &mut [u32]) -> Result
     Ok(pass::<true>(model, sheet, now, list))
 }
 
-/// Counts the spans of two good strips, and writes them to a list that has room. Not inlined, so that the
-/// loop has the registers to itself: it is a fifth faster.
+/// Counts the spans of two good strips, and writes them to a list that has room. The judge's loop with other
+/// ends: a loop for both made the judge a tenth slower. Not inlined, for the judge's reason.
 #[inline(never)]
 fn pass<const WRITE: bool>(model: &[u32], sheet: &[u32], now: u32, list: &mut [Span]) -> usize {
     let mut count = 0;
