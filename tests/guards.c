@@ -10,7 +10,7 @@
 #include <stdlib.h>
 #include <string.h>
 
-enum { GUARD = 64, BLOCKS = 4, NUMBERS = 35 };
+enum { GUARD = 64, BLOCKS = 4, NUMBERS = 41 };
 
 static size_t guard = GUARD;
 static unsigned checks, faults;
@@ -261,6 +261,57 @@ static void histories(void)
     evidence("evidence: refused, 4,097 words", FERRULEBEE_EVENTS + 1, 2, 9999, 0);
 }
 
+/* ---- the spans ---- */
+
+/* A model with LJ and SL by turns from tick 1 on, whose numbers are neighbours, and a sheet that is in by LA
+ * in tick 1: each odd tick is a span, and the last one is open where the model is in at the end. Other kinds
+ * and a sheet of more words are for refusals. */
+static void spans(const char *what, size_t model_words, uint32_t model_kind, size_t sheet_words, uint32_t sheet_kind, uint32_t now, size_t room, uint32_t expected)
+{
+    uint32_t *list = lend(4 * room), *m = lend(4 * model_words), *s = lend(4 * sheet_words);
+    for (size_t i = 0; i < model_words; i++)
+        m[i] = FERRULEBEE_WORD(1 + i, model_kind + i % 2, 7);
+    for (size_t i = 0; i < sheet_words; i++)
+        s[i] = FERRULEBEE_WORD(1 + i, sheet_kind + i % 2 * 2, 40);
+    save();
+    ferrulebee_spans_answer a = ferrulebee_spans(m, model_words, s, sheet_words, now, list, room);
+    uint32_t count = expected != 0 || sheet_words == 0 ? 0 : (uint32_t)(model_words + 1) / 2;
+    answered(what, a.code, expected, 0, 8 * count);
+    if (a.place != 0 || a.count != count)
+        fault(what, "another place or count", a.code, expected);
+    for (uint32_t i = 0; i < count; i++) {
+        int open = 2 * i + 1 == model_words;
+        if (list[2 * i] != 2 * i + 1 || list[2 * i + 1] != (open ? now : 2 * i + 1))
+            fault(what, "another span", a.code, expected);
+    }
+    give_back();
+}
+
+static void all_spans(void)
+{
+    size_t most = FERRULEBEE_EVENTS;
+    uint32_t join = FERRULEBEE_LJ, add = FERRULEBEE_LA, last = FERRULEBEE_TICKS;
+    spans("spans: now too late", 3, join, 1, add, last + 1, 9, 10);
+    spans("spans: a model's strip of 4,097 words", most + 1, join, 1, add, last, 9, 11);
+    spans("spans: a sheet's strip of 4,097 words", 3, join, most + 1, add, last, 9, 12);
+    spans("spans: a model's strip that starts with a leave", 3, FERRULEBEE_SL, 1, add, last, 9, 13);
+    spans("spans: a sheet's strip that starts with a remove", 3, join, 1, FERRULEBEE_SR, last, 9, 14);
+    spans("spans: no list at all", 3, join, 1, add, last, 0, 40);
+    spans("spans: room for a number", 3, join, 1, add, last, 1, 40);
+    spans("spans: room for a span of two", 3, join, 1, add, last, 2, 40);
+    spans("spans: one number short", 3, join, 1, add, last, 3, 40);
+    spans("spans: one number short of many", most, join, 1, add, last, most - 1, 40);
+    spans("spans: a fit", 3, join, 1, add, last, 4, 0);
+    spans("spans: a number to spare", 3, join, 1, add, last, 5, 0);
+    spans("spans: many numbers to spare", 3, join, 1, add, last, 2 * most, 0);
+    spans("spans: a fit of many", most, join, 1, add, last, most, 0);
+    spans("spans: many and a number to spare", most - 1, join, 1, add, last, most + 1, 0);
+    spans("spans: none, no list at all", 3, join, 0, add, last, 0, 0);
+    spans("spans: none, a list", 3, join, 0, add, last, 3, 0);
+    spans("spans: two empty strips, no list at all", 0, join, 0, add, 0, 0, 0);
+    spans("spans: two empty strips, a list", 0, join, 0, add, 0, 2, 0);
+}
+
 /* ---- deliveries ---- */
 
 /* A store of `sheets` sheets of 5 bytes each; then one word of it is set, where `at` is a place in it. */
@@ -426,7 +477,7 @@ static void tick_parts(void)
 
 static void reached(void)
 {
-    static const int numbers[] = {1, 2, 3, 4, 5, 6, 7, 9, 10, 11, 12, 13, 14, 20, 21, 22, 23, 24, 25, 26, 27, 28, 31, 32, 33, 34};
+    static const int numbers[] = {1, 2, 3, 4, 5, 6, 7, 9, 10, 11, 12, 13, 14, 20, 21, 22, 23, 24, 25, 26, 27, 28, 31, 32, 33, 34, 40};
     for (size_t i = 0; i < sizeof numbers / sizeof *numbers; i++)
         if (seen[numbers[i]] == 0) {
             faults++;
@@ -443,6 +494,7 @@ int main(int count, char **words)
     reads();
     masks();
     histories();
+    all_spans();
     deliveries();
     book_reads();
     book_writes();

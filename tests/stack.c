@@ -21,6 +21,7 @@ static ferrulebee_answer answer;
 static ferrulebee_book_read_answer read_answer;
 static uint8_t model[4 * FERRULEBEE_EVENTS], sheet[4 * FERRULEBEE_EVENTS];
 static uint32_t model_words[FERRULEBEE_EVENTS], sheet_words[FERRULEBEE_EVENTS], records[FERRULEBEE_EVENTS];
+static uint32_t model_strict[FERRULEBEE_EVENTS], sheet_strict[FERRULEBEE_EVENTS], spans[FERRULEBEE_EVENTS];
 static uint8_t store[FERRULEBEE_STORE_BYTES], out[2 * FERRULEBEE_STORE_BYTES];
 static uint8_t book[FERRULEBEE_LONGEST_BOOK];
 static uint32_t code;
@@ -40,6 +41,7 @@ static void call_tick_part(void) { code = ferrulebee_tick_part(model_words, FERR
 static void call_deliver(void) { code = ferrulebee_deliver(group, 0, store, sizeof store, out, sizeof out).code; }
 static void call_judge(void) { code = FERRULEBEE_CODE(judge(model, sizeof model, sheet, sizeof sheet, FERRULEBEE_TICKS)) != FERRULEBEE_BY_ADD; }
 static void call_evidence(void) { code = ferrulebee_evidence(model_words, FERRULEBEE_EVENTS, sheet_words, FERRULEBEE_EVENTS, FERRULEBEE_TICKS).count != 2; }
+static void call_spans(void) { code = ferrulebee_spans(model_strict, FERRULEBEE_EVENTS, sheet_strict, FERRULEBEE_EVENTS, FERRULEBEE_TICKS, spans, FERRULEBEE_EVENTS).count != FERRULEBEE_EVENTS / 2; }
 
 /* `most` is what docs/LIBRARY.md says. */
 static const struct {
@@ -60,6 +62,7 @@ static const struct {
     {"ferrulebee_deliver", call_deliver, 8192},
     {"judge", call_judge, 40960},
     {"ferrulebee_evidence", call_evidence, 1024},
+    {"ferrulebee_spans", call_spans, 1024},
 };
 
 static void put(uint8_t *at, uint32_t word)
@@ -73,6 +76,8 @@ static void fill(void)
     for (uint32_t i = 0; i < FERRULEBEE_EVENTS; i++) {
         model_words[i] = FERRULEBEE_WORD(i + 1, i % 2 == 0 ? FERRULEBEE_LJ : FERRULEBEE_LL, 63);
         sheet_words[i] = FERRULEBEE_WORD(i + 1, i % 2 == 0 ? FERRULEBEE_LA : FERRULEBEE_LR, 255);
+        model_strict[i] = FERRULEBEE_WORD(i + 1, i % 2 == 0 ? FERRULEBEE_LJ : FERRULEBEE_SL, 63);
+        sheet_strict[i] = FERRULEBEE_WORD(i + 1, i % 2 == 0 ? FERRULEBEE_LA : FERRULEBEE_SR, 255);
         put(model + 4 * i, model_words[i]);
         put(sheet + 4 * i, sheet_words[i]);
     }

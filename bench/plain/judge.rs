@@ -1,7 +1,24 @@
-//! The judge: checks both strips, then one pass over their ticks.
+//! The judge: checks both strips, then one pass over their ticks. The spans share the checks.
 
 use crate::event::{enters, kind, number, numbers, tick, EVENTS, LA, LJ, SA, SJ, SL, SR, TICKS};
 use crate::refusal::{refused, refused_at, Refusal};
+
+/// A word of a strip as it is lent: as bytes to the judge, as a number to the spans.
+pub trait Word: Copy {
+    fn word(self) -> u32;
+}
+
+impl Word for [u8; 4] {
+    fn word(self) -> u32 {
+        u32::from_le_bytes(self)
+    }
+}
+
+impl Word for u32 {
+    fn word(self) -> u32 {
+        self
+    }
+}
 
 #[derive(Clone, Copy, Debug, PartialEq, Eq)]
 pub enum Verdict {
@@ -41,12 +58,7 @@ fn checked(model: &[u8], sheet: &[u8], now: u32) -> Result<Verdict, Refusal> {
     }
     let Some(model) = whole_words(model) else { return refused(11) };
     let Some(sheet) = whole_words(sheet) else { return refused(12) };
-    if let Some(place) = first_bad(model, SJ, now) {
-        return refused_at(13, place);
-    }
-    if let Some(place) = first_bad(sheet, SA, now) {
-        return refused_at(14, place);
-    }
+    check_good(model, sheet, now)?;
     Ok(judge(model, sheet))
 }
 
@@ -55,13 +67,24 @@ fn whole_words(strip: &[u8]) -> Option<&[[u8; 4]]> {
     (rest.is_empty() && words.len() <= EVENTS).then_some(words)
 }
 
+/// Refusals 13 and 14.
+pub fn check_good<W: Word>(model: &[W], sheet: &[W], now: u32) -> Result<(), Refusal> {
+    if let Some(place) = first_bad(model, SJ, now) {
+        return refused_at(13, place);
+    }
+    if let Some(place) = first_bad(sheet, SA, now) {
+        return refused_at(14, place);
+    }
+    Ok(())
+}
+
 /// The first place where a strip isn't good; `side` is the first kind of its side.
-fn first_bad(strip: &[[u8; 4]], side: u32, now: u32) -> Option<usize> {
-    let carrier = number(u32::from_le_bytes(*strip.first()?));
+fn first_bad<W: Word>(strip: &[W], side: u32, now: u32) -> Option<usize> {
+    let carrier = number(strip.first()?.word());
     let mut before = 0;
     let mut entering = true;
-    for (place, bytes) in strip.iter().enumerate() {
-        let word = u32::from_le_bytes(*bytes);
+    for (place, word) in strip.iter().enumerate() {
+        let word = word.word();
         let good = tick(word) > before
             && tick(word) <= now
             && kind(word) & 4 == side
@@ -78,11 +101,13 @@ fn first_bad(strip: &[[u8; 4]], side: u32, now: u32) -> Option<usize> {
 }
 
 /// Past a strip's end: above every tick.
-const NO_TICK: u32 = u32::MAX;
-const NO_KIND: u32 = 8;
+pub const NO_TICK: u32 = u32::MAX;
+pub const NO_KIND: u32 = 8;
 
-/// The verdict on two good strips.
-pub fn judge(model: &[[u8; 4]], sheet: &[[u8; 4]]) -> Verdict {
+/// The verdict on two good strips. Not inlined, so that the loop has the registers to itself: it is a tenth
+/// faster.
+#[inline(never)]
+pub fn judge<W: Word>(model: &[W], sheet: &[W]) -> Verdict {
     let (mut models, mut sheets) = (Events::of(model), Events::of(sheet));
     let mut member = false;
     let mut liberal = false;
@@ -118,14 +143,14 @@ pub fn judge(model: &[[u8; 4]], sheet: &[[u8; 4]]) -> Verdict {
 }
 
 /// A strip's events from the one that comes next.
-struct Events<'a> {
-    rest: std::slice::Iter<'a, [u8; 4]>,
-    tick: u32,
+pub struct Events<'a, W> {
+    rest: std::slice::Iter<'a, W>,
+    pub tick: u32,
     kind: u32,
 }
 
-impl<'a> Events<'a> {
-    fn of(strip: &'a [[u8; 4]]) -> Self {
+impl<'a, W: Word> Events<'a, W> {
+    pub fn of(strip: &'a [W]) -> Self {
         let mut events = Events { rest: strip.iter(), tick: 0, kind: NO_KIND };
         events.advance();
         events
@@ -133,16 +158,13 @@ impl<'a> Events<'a> {
 
     fn advance(&mut self) {
         (self.tick, self.kind) = match self.rest.next() {
-            Some(bytes) => {
-                let word = u32::from_le_bytes(*bytes);
-                (tick(word), kind(word))
-            }
+            Some(word) => (tick(word.word()), kind(word.word())),
             None => (NO_TICK, NO_KIND),
         };
     }
 
     /// The kind of the event in this tick, if there is one.
-    fn take(&mut self, now: u32) -> u32 {
+    pub fn take(&mut self, now: u32) -> u32 {
         if self.tick != now {
             return NO_KIND;
         }

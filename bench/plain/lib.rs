@@ -11,3 +11,4 @@ pub mod judge;
 pub mod keeper;
 pub mod listing;
 pub mod refusal;
+pub mod spans;

@@ -44,12 +44,7 @@ fn print(
 
 /// Judges pair by pair, as document 01 tells it.
 pub fn by_pairs(records: &[u32]) -> Moments {
-    let mut models = vec![Vec::new(); MODELS as usize];
-    let mut sheets = vec![Vec::new(); SHEETS as usize];
-    for &word in records {
-        let side = if of_model(kind(word)) { &mut models } else { &mut sheets };
-        side[number(word) as usize].push(word.to_le_bytes());
-    }
+    let (models, sheets) = strips(records);
     let pairs = models.iter().flat_map(|model| sheets.iter().map(move |sheet| (model, sheet)));
     pairs
         .map(|(model, sheet)| match judge(model, sheet) {
@@ -57,6 +52,17 @@ pub fn by_pairs(records: &[u32]) -> Moments {
             Verdict::Denied(_) => None,
         })
         .collect()
+}
+
+/// The strips of all models and of all sheets.
+pub fn strips(records: &[u32]) -> (Vec<Vec<u32>>, Vec<Vec<u32>>) {
+    let mut models = vec![Vec::new(); MODELS as usize];
+    let mut sheets = vec![Vec::new(); SHEETS as usize];
+    for &word in records {
+        let side = if of_model(kind(word)) { &mut models } else { &mut sheets };
+        side[number(word) as usize].push(word);
+    }
+    (models, sheets)
 }
 
 /// Carries every pair's moment through one replay: another way, to show what judging pair by pair costs.

@@ -7,9 +7,10 @@ use crate::measure::{measure, Side, Timing};
 use crate::work::{self, Strips};
 use crate::Setting;
 use plain::delivery::deliver;
-use plain::event::EVENTS;
+use plain::event::{EVENTS, LL, SL};
 use plain::group::Group;
 use plain::judge::judge_bytes;
+use plain::spans::spans;
 use std::hint::black_box;
 
 pub fn judge_4096(setting: &Setting) -> Vec<Timing> {
@@ -17,11 +18,23 @@ pub fn judge_4096(setting: &Setting) -> Vec<Timing> {
 }
 
 pub fn judge_even(setting: &Setting) -> Vec<Timing> {
-    judge(setting, 16, |_| work::even_strips(4_096))
+    judge(setting, 16, |_| work::even_strips(4_096, LL))
 }
 
 pub fn judge_8(setting: &Setting) -> Vec<Timing> {
     judge(setting, 1_024, |dice| work::strips(dice, 8))
+}
+
+pub fn spans_4096(setting: &Setting) -> Vec<Timing> {
+    spans_of(setting, 16, |dice| work::strips(dice, 4_096))
+}
+
+pub fn spans_even(setting: &Setting) -> Vec<Timing> {
+    spans_of(setting, 16, |_| work::even_strips(4_096, SL))
+}
+
+pub fn spans_8(setting: &Setting) -> Vec<Timing> {
+    spans_of(setting, 1_024, |dice| work::strips(dice, 8))
 }
 
 pub fn book_0(setting: &Setting) -> Vec<Timing> {
@@ -57,7 +70,7 @@ fn pair<'a>(gate: impl FnMut() + 'a, plain: impl FnMut() + 'a) -> [Side<'a>; 2] 
 /// One call judges the next of several pairs of strips, so that no call can be learnt by heart.
 fn judge(setting: &Setting, pairs: u64, strips: fn(&mut Dice) -> Strips) -> Vec<Timing> {
     let mut dice = Dice(pairs);
-    let pairs: Vec<_> = (0..pairs).map(|_| strips(&mut dice)).collect();
+    let pairs: Vec<_> = (0..pairs).map(|_| strips(&mut dice).bytes()).collect();
     for pair in &pairs {
         let gate = gate::judge(&pair.model, &pair.sheet, work::NOW);
         assert_eq!(gate, judge_bytes(&pair.model, &pair.sheet, work::NOW), "the judges differ");
@@ -71,6 +84,37 @@ fn judge(setting: &Setting, pairs: u64, strips: fn(&mut Dice) -> Strips) -> Vec<
         || {
             let strips = black_box(other.next().expect("pairs"));
             black_box(judge_bytes(&strips.model, &strips.sheet, work::NOW));
+        },
+    );
+    measure(setting.call_rounds(), &mut sides)
+}
+
+/// Likewise for the spans, into a list that is always long enough.
+fn spans_of(setting: &Setting, pairs: u64, strips: fn(&mut Dice) -> Strips) -> Vec<Timing> {
+    let mut dice = Dice(pairs);
+    let pairs: Vec<_> = (0..pairs).map(|_| strips(&mut dice)).collect();
+    let mut gate_list = vec![7; 2 * EVENTS];
+    let mut plain_list = vec![7; 2 * EVENTS];
+    for pair in &pairs {
+        let answer = gate::spans(&pair.model, &pair.sheet, work::NOW, &mut gate_list);
+        let count =
+            spans(&pair.model, &pair.sheet, work::NOW, &mut plain_list).expect("good strips");
+        let got = (answer.code, answer.place, answer.count as usize);
+        assert_eq!(got, (0, 0, count), "the counts of spans differ");
+        assert_eq!(gate_list, plain_list, "the lists of spans differ");
+    }
+    let (mut one, mut other) = (pairs.iter().cycle(), pairs.iter().cycle());
+    let mut sides = pair(
+        || {
+            let strips = black_box(one.next().expect("pairs"));
+            black_box(gate::spans(&strips.model, &strips.sheet, work::NOW, &mut gate_list));
+            black_box(&gate_list);
+        },
+        || {
+            let strips = black_box(other.next().expect("pairs"));
+            black_box(spans(&strips.model, &strips.sheet, work::NOW, &mut plain_list))
+                .expect("good strips");
+            black_box(&plain_list);
         },
     );
     measure(setting.call_rounds(), &mut sides)

@@ -32,12 +32,20 @@ pub struct Delivery {
     pub length: u32,
 }
 
+#[repr(C)]
+pub struct SpansAnswer {
+    pub code: u32,
+    pub place: u32,
+    pub count: u32,
+}
+
 const _: () = assert!(size_of::<Group>() == 2288);
 const _: () = assert!(size_of::<BookAnswer>() == 2296);
 const _: () = assert!(size_of::<Delivery>() == 12);
+const _: () = assert!(size_of::<SpansAnswer>() == 12);
 
 mod c {
-    use super::{BookAnswer, Delivery, Group};
+    use super::{BookAnswer, Delivery, Group, SpansAnswer};
 
     extern "C" {
         pub fn judge(m: *const u8, m_len: usize, s: *const u8, s_len: usize, now: u32) -> u64;
@@ -55,6 +63,15 @@ mod c {
             out: *mut u8,
             out_bytes: usize,
         ) -> Delivery;
+        pub fn ferrulebee_spans(
+            model: *const u32,
+            model_words: usize,
+            sheet: *const u32,
+            sheet_words: usize,
+            now: u32,
+            list: *mut u32,
+            list_words: usize,
+        ) -> SpansAnswer;
     }
 }
 
@@ -71,6 +88,11 @@ pub fn book_read(book: &[u8], list: &mut [u32]) -> BookAnswer {
 pub fn deliver(group: &Group, model: u32, store: &[u8], out: &mut [u8]) -> Delivery {
     let (from, to) = (store.as_ptr(), out.as_mut_ptr());
     unsafe { c::ferrulebee_deliver(*group, model, from, store.len(), to, out.len()) }
+}
+
+pub fn spans(model: &[u32], sheet: &[u32], now: u32, list: &mut [u32]) -> SpansAnswer {
+    let (m, s, to) = (model.as_ptr(), sheet.as_ptr(), list.as_mut_ptr());
+    unsafe { c::ferrulebee_spans(m, model.len(), s, sheet.len(), now, to, list.len()) }
 }
 
 impl From<&plain::group::Group> for Group {

@@ -36,10 +36,13 @@ const BUFFERS: &str = "Buffers are warm: made before the first round, used again
 
 type Row = fn(&Setting) -> Vec<Timing>;
 
-const ROWS: [(&str, &str, Row); 11] = [
+const ROWS: [(&str, &str, Row); 15] = [
     ("judge-4096", "judge, strips of 4,096 words", calls::judge_4096),
     ("judge-even", "the same, ticks and kinds in a pattern", calls::judge_even),
     ("judge-8", "judge, strips of 8 words", calls::judge_8),
+    ("spans-4096", "spans, strips of 4,096 words", calls::spans_4096),
+    ("spans-even", "the same, ticks and kinds in a pattern", calls::spans_even),
+    ("spans-8", "spans, strips of 8 words", calls::spans_8),
     ("book-0", "reading a book, T = 1,000,000, 0 records", calls::book_0),
     ("book-4096", "the same, 4,096 records", calls::book_4096),
     ("deliver-empty", "delivery from an empty store", calls::deliver_empty),
@@ -47,6 +50,7 @@ const ROWS: [(&str, &str, Row); 11] = [
     ("deliver-large", "delivery of 20 sheets of 52,400 bytes", calls::deliver_large),
     ("start", "listing program, an empty file", programs::start),
     ("listing", "listing program, a full book", programs::listing),
+    ("spans", "spans program, the same book", programs::spans),
     ("keeper", "keeper program, 1,000,000 commands", programs::keeper),
 ];
 
@@ -81,7 +85,7 @@ fn print(rows: &[(&str, &str, Vec<Timing>)]) {
         println!("| `{name}` | {what} | {} | {} | {} |", cell(gate), cell(plain), gate.to(plain));
     }
     for (name, _, timings) in rows.iter().filter(|row| row.2.len() > 2) {
-        println!("\n| `{name}` by | Time | Gate to it |\n|---|---|---|");
+        println!("\n| `{name}` beside | Time | Gate to it |\n|---|---|---|");
         for timing in &timings[2..] {
             println!("| {} | {} | {} |", timing.name, cell(timing), timings[0].to(timing));
         }

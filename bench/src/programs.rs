@@ -49,12 +49,18 @@ impl Program {
 }
 
 fn timed(rounds: usize, programs: &[Program]) -> Vec<Timing> {
+    timed_beside(rounds, programs, &[])
+}
+
+/// The others do another work and print what they like.
+fn timed_beside(rounds: usize, programs: &[Program], others: &[Program]) -> Vec<Timing> {
     let first = programs[0].prints();
     for other in &programs[1..] {
         assert!(other.prints() == first, "{} prints something else", other.name);
     }
     let mut sides: Vec<Side> = programs
         .iter()
+        .chain(others)
         .map(|program| Side { name: program.name, work: Box::new(|| program.runs()) })
         .collect();
     measure(rounds, &mut sides)
@@ -72,10 +78,16 @@ pub fn start(setting: &Setting) -> Vec<Timing> {
     timed(setting.rounds, &pair(setting, "listing", Path::new("/dev/null")))
 }
 
-pub fn listing(setting: &Setting) -> Vec<Timing> {
+/// A full book, and the file that has it.
+fn full_book(setting: &Setting) -> (Vec<u8>, PathBuf) {
     let input = setting.folder.join("full.book");
     let book = work::book(&mut Dice(EVENTS as u64), EVENTS);
     fs::write(&input, &book).expect("a file in the folder");
+    (book, input)
+}
+
+pub fn listing(setting: &Setting) -> Vec<Timing> {
+    let (book, input) = full_book(setting);
     let mut programs = pair(setting, "listing", &input);
     let replay =
         Program::new("plain Rust, one replay", setting.plain.join("plain-listing"), &input);
@@ -122,6 +134,13 @@ fn load(book: &[u8]) -> String {
         writeln!(sql, "INSERT INTO event VALUES({tick}, {kind}, {number});").expect("memory");
     }
     sql + "CREATE INDEX by_kind ON event(kind, tick, number);\nCOMMIT;\n"
+}
+
+/// Beside the gate's listing of the same book, which goes through the same pairs.
+pub fn spans(setting: &Setting) -> Vec<Timing> {
+    let (_, input) = full_book(setting);
+    let listing = Program::new("the gate's listing program", setting.gate.join("listing"), &input);
+    timed_beside(setting.rounds, &pair(setting, "spans", &input), &[listing])
 }
 
 pub fn keeper(setting: &Setting) -> Vec<Timing> {

@@ -1,17 +1,22 @@
 //! The inputs: strips, books, stores and commands, made by fixed rules from a fixed seed.
 
 use crate::dice::Dice;
-use plain::event::{kind, word, EVENTS, LL, LR, SA, SHEETS, SJ, TICKS};
+use plain::event::{kind, word, EVENTS, LJ, LL, LR, SA, SHEETS, SJ, TICKS};
 use plain::group::Group;
-use plain::judge::judge_bytes;
+use plain::judge::{judge, Verdict};
 
 pub const NOW: u32 = TICKS;
-const BY_ADD: u64 = 101;
-const BY_JOIN: u64 = 102;
 
-pub struct Strips {
-    pub model: Vec<u8>,
-    pub sheet: Vec<u8>,
+/// A model's and a sheet's strip, as words or as bytes.
+pub struct Strips<T = u32> {
+    pub model: Vec<T>,
+    pub sheet: Vec<T>,
+}
+
+impl Strips {
+    pub fn bytes(&self) -> Strips<u8> {
+        Strips { model: bytes(&self.model), sheet: bytes(&self.sheet) }
+    }
 }
 
 pub fn bytes(words: &[u32]) -> Vec<u8> {
@@ -21,21 +26,23 @@ pub fn bytes(words: &[u32]) -> Vec<u8> {
 /// Two strips of so many words that end in a grant, their ticks in no pattern.
 pub fn strips(dice: &mut Dice, words: u32) -> Strips {
     loop {
-        let model = bytes(&strip(dice, SJ, 2, words));
-        let sheet = bytes(&strip(dice, SA, 7, words));
-        if matches!(judge_bytes(&model, &sheet, NOW) >> 32, BY_ADD | BY_JOIN) {
+        let model = strip(dice, SJ, 2, words);
+        let sheet = strip(dice, SA, 7, words);
+        if matches!(judge(&model, &sheet), Verdict::Granted(_)) {
             return Strips { model, sheet };
         }
     }
 }
 
-/// Two strips of so many words whose events take turns, tick by tick, and whose kinds repeat.
-pub fn even_strips(words: u32) -> Strips {
+/// Two strips of so many words whose events take turns, tick by tick, and whose kinds repeat. All leaves
+/// and removes are of one sort: where they are liberal the grant holds from its first moment on, where
+/// they are strict there is a span for every two words of a strip.
+pub fn even_strips(words: u32, leave: u32) -> Strips {
     let strip = |side, number, first| -> Vec<u32> {
-        let kinds = [side, side + 3, side + 1, side + 3];
+        let kinds = [SJ, leave, LJ, leave].map(|kind| side + kind);
         (0..words).map(|place| word(first + 2 * place, kinds[place as usize % 4], number)).collect()
     };
-    Strips { model: bytes(&strip(SJ, 2, 1)), sheet: bytes(&strip(SA, 7, 2)) }
+    Strips { model: strip(SJ, 2, 1), sheet: strip(SA, 7, 2) }
 }
 
 /// Events on one side, each strict or liberal by a throw; the last, a leave or remove, is liberal.
