@@ -202,3 +202,31 @@ module _ (m s : List ℕ) (rm : Rising m) (rs : Rising s) where
           rw (le-leb (a .tick) (b .tick) k, le-leb (b .tick) (a .tick) h) (both-first (omega arith) left))
           (either (ltb (b .tick) (a .tick))))
           (either (ltb (a .tick) (b .tick)))
+
+-- ---- the judge's own loop, which keeps no tick and has the next events in variables
+abbrev pub At : List ℕ → List ℕ → ℕ → ℕ → Seen → Type 0
+At m s i j seen = (t : ℕ) × Passed m s (record { i = i; j = j; tick = t; seen = seen })
+
+module _ (m s : List ℕ) (rm : Rising m) (rs : Rising s) (i j : ℕ) (seen : Seen) (x : At m s i j seen) where
+  abbrev pass : Pass
+  pass = record { i = i; j = j; tick = x .0; seen = seen }
+
+  module _ (fm : tickAt m i < never) (fs : tickAt s j < never) (a b : Head) (ea : a ≡ headOf m i) (eb : b ≡ headOf s j) where
+    pub by-model : a .tick < b .tick → At m s (i + 1) j (stepOf seen (a .tick) (a .kind) quiet)
+    by-model h =
+        let l : headOf m i .tick < headOf s j .tick = rw (ea, eb) at h in
+        rw ea (headOf m i .tick, model-first m s rm rs pass (x .1) fm fs l .passed)
+
+    pub by-sheet : b .tick < a .tick → At m s i (j + 1) (stepOf seen (b .tick) quiet (b .kind))
+    by-sheet h =
+        let l : headOf s j .tick < headOf m i .tick = rw (ea, eb) at h in
+        rw eb (headOf s j .tick, sheet-first m s rm rs pass (x .1) fm fs l .passed)
+
+    pub by-both : b .tick ≤ a .tick → a .tick ≤ b .tick → i + j < length m + length s → At m s (i + 1) (j + 1) (stepOf seen (a .tick) (a .kind) (b .kind))
+    by-both h g left =
+        let k : headOf s j .tick ≤ headOf m i .tick = rw (ea, eb) at h in
+        let l : headOf m i .tick ≤ headOf s j .tick = rw (ea, eb) at g in
+        rw (ea, eb) (headOf m i .tick, both-first m s rm rs pass (x .1) fm fs (omega arith) left .passed)
+
+  pub at-end : length m + length s ≤ i + j → (n : ℕ) → UpTo n m → UpTo n s → seen ≡ scanTo (historyOf m) (historyOf s) n
+  at-end h n um us = pass-end m s rm rs pass (x .1) h n um us

@@ -186,11 +186,34 @@ pub fn scan(m: &[u32], s: &[u32]) -> Seen
     requires { ⌜ Rising (m .now) × Rising (s .now) × (length (m .now) ≤ events) × (length (s .now) ≤ events) ⌝ }
     ensures { λ r. ⌜ ((n : ℕ) → UpTo n (m .entry .now) → UpTo n (s .entry .now) → r ≡ scanTo (historyOf (m .entry .now)) (historyOf (s .entry .now)) n) ⌝ }
 {
-    let mut pass = begin();
-    while pass.i + pass.j < m.len() + s.len() {
-        pass = advance(m, s, pass);
+    let mut seen = Seen {
+        inside: false,
+        liberal: false,
+        standing: Standing::Never,
+    };
+    let mut i: usize = 0;
+    let mut j: usize = 0;
+    // The heads stand in variables: a turn reads only the strip whose event it takes.
+    let mut a = next_event(m, 0);
+    let mut b = next_event(s, 0);
+    while i + j < m.len() + s.len() {
+        if a.tick < b.tick {
+            seen = step(seen, a.tick, a.kind, rules::QUIET);
+            i += 1;
+            a = next_event(m, i);
+        } else if b.tick < a.tick {
+            seen = step(seen, b.tick, rules::QUIET, b.kind);
+            j += 1;
+            b = next_event(s, j);
+        } else {
+            seen = step(seen, a.tick, a.kind, b.kind);
+            i += 1;
+            j += 1;
+            a = next_event(m, i);
+            b = next_event(s, j);
+        }
     }
-    pass.seen
+    seen
 }
 
 // The grant holds.

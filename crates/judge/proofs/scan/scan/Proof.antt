@@ -1,65 +1,114 @@
--- The loop has taken the events up to some tick; a turn takes those of the next tick.
-use mathlib.Core.Path.{_≡_, sym, subst}
+-- The loop has taken the events up to some tick and knows the next of each strip; a turn takes those of the next tick.
+use mathlib.Core.Path.{_≡_}
 use Prim.Native.Nat.{_+_, _-_, _<_}
 use native.Mathlib.Omega.{arith}
 use lib.ListN.{length}
 use Rattle.strip.proofs.Places.{tickAt}
-use Rattle.judge.specs.declared.scan.Pass.{Pass}
-use Rattle.judge.specs.Scan.{never}
-use Rattle.judge.proofs.Pass.{Passed, Turned, pass-start, pass-on, pass-end}
+use Rattle.judge.specs.Scan.{never, headOf}
+use Rattle.judge.proofs.Pass.{At, pass-start, at-end, by-model, by-sheet, by-both}
 use borrow.Author.Needs.{needs}
 use Rattle.judge.proofs.scan.scan.Statement.{statement}
 use Rattle.judge.proofs.scan.scan.Tie as tie
 
 abbrev Inv-loop : tie.InvT-loop
-Inv-loop m s pass₀ pass = Passed m s pass
+Inv-loop m s seen₀ i₀ j₀ a₀ b₀ seen i j a b = At m s i j seen × (a ≡ headOf m i) × (b ≡ headOf s j)
 
 abbrev μ-loop : tie.MeasureT-loop
-μ-loop m s pass₀ pass = (length m + length s) - (pass .i + pass .j)
+μ-loop m s seen₀ i₀ j₀ a₀ b₀ seen i j a b = (length m + length s) - (i + j)
 
-begin-requires : tie.Need-begin-requires Inv-loop μ-loop
-begin-requires c κs = search needs
+next-event-requires : tie.Need-next-event-requires Inv-loop μ-loop
+next-event-requires c κs = search needs
+
+next-event-requires-2 : tie.Need-next-event-requires-2 Inv-loop μ-loop
+next-event-requires-2 c κs = search needs
 
 loop-holds : tie.Need-loop-holds Inv-loop μ-loop
-loop-holds c =
-    let pre = c .before .before .before .pre in
-    let a = c .before .before .before .args in
-    subst (λ (p : Pass). Passed (a .m .now) (a .s .now) p) (sym (c .begin .ensures)) (pass-start _ _ (pre .0) (pre .1))
+loop-holds c = ((0, pass-start _ _ (c .before .before .before .before .pre .0) (c .before .before .before .before .pre .1)), c .before .next-event .ensures, c .next-event2 .ensures)
 
-add-if1 : tie.Need-add-if1 Inv-loop μ-loop
-add-if1 c = search needs
+add-loop : tie.Need-add-loop Inv-loop μ-loop
+add-loop c = search needs
 
-add-if1-2 : tie.Need-add-if1-2 Inv-loop μ-loop
-add-if1-2 c = search needs
+add-loop-2 : tie.Need-add-loop-2 Inv-loop μ-loop
+add-loop-2 c = search needs
 
-advance-requires : tie.Need-advance-requires Inv-loop μ-loop
-advance-requires c κs =
-    let x = c .before .before .loop .inv in
-    let pre = c .before .before .before .before .before .before .pre in
-    (omega (arith, x .model .inside, pre .2), omega (arith, x .sheet .inside, pre .3))
+step-requires : tie.Need-step-requires Inv-loop μ-loop
+step-requires c κs = search needs
 
-turned : (c : tie.After-advance Inv-loop μ-loop)
-    → let at = c .before .before .before in let a = at .before .before .before .before .args in Turned (a .m .now) (a .s .now) (at .loop .pass) (c .advance .result)
-turned c =
-    let at = c .before .before .before in
-    let start = at .before .before .before .before in
-    let a = start .args in
-    let fm : tickAt (a .m .now) (at .loop .pass .i) < never = omega (arith, at .before .before .before .shared-slice-known .given (at .loop .pass .i)) in
-    let fs : tickAt (a .s .now) (at .loop .pass .j) < never = omega (arith, at .before .before .shared-slice-known2 .given (at .loop .pass .j)) in
-    subst (λ (q : Pass). Turned (a .m .now) (a .s .now) (at .loop .pass) q) (sym (c .advance .ensures))
-    (pass-on _ _ (start .pre .0) (start .pre .1) (at .loop .pass) (at .loop .inv) fm fs (c .before .if1 .taken))
+add-i : tie.Need-add-i Inv-loop μ-loop
+add-i c = search needs
+
+next-event-requires-3 : tie.Need-next-event-requires-3 Inv-loop μ-loop
+next-event-requires-3 c κs = search needs
+
+-- a word's tick is below `never`
+abbrev Fits : tie.At-loop Inv-loop μ-loop → Type 0
+Fits at =
+    let a = at .before .before .before .before .before .args in
+    (tickAt (a .m .now) (at .loop .i) < never) × (tickAt (a .s .now) (at .loop .j) < never)
+
+fits : (at : tie.At-loop Inv-loop μ-loop) → Fits at
+fits at = (omega (arith, at .before .before .before .before .shared-slice-known .given (at .loop .i)), omega (arith, at .before .before .before .shared-slice-known2 .given (at .loop .j)))
 
 loop-less : tie.Need-loop-less Inv-loop μ-loop
-loop-less c = omega (arith, turned c .more, c .before .if1 .taken)
+loop-less c = search needs
 
 loop-again : tie.Need-loop-again Inv-loop μ-loop
-loop-again c = turned c .passed
+loop-again c =
+    let at = c .before .before .before .before .before .before in
+    let pre = at .before .before .before .before .before .pre in
+    let inv = at .loop .inv in
+    let p = by-model _ _ (pre .0) (pre .1) _ _ _ (inv .0) (fits at .0) (fits at .1) _ _ (inv .1) (inv .2) (c .before .before .if1 .taken) in
+    (rw (c .before .step .ensures) p, c .next-event3 .ensures, inv .2)
+
+step-requires-2 : tie.Need-step-requires-2 Inv-loop μ-loop
+step-requires-2 c κs = search needs
+
+add-j : tie.Need-add-j Inv-loop μ-loop
+add-j c = search needs
+
+next-event-requires-4 : tie.Need-next-event-requires-4 Inv-loop μ-loop
+next-event-requires-4 c κs = search needs
+
+loop-less-2 : tie.Need-loop-less-2 Inv-loop μ-loop
+loop-less-2 c = search needs
+
+loop-again-2 : tie.Need-loop-again-2 Inv-loop μ-loop
+loop-again-2 c =
+    let at = c .before .before .before .before .before .before .before .before .before in
+    let pre = at .before .before .before .before .before .pre in
+    let inv = at .loop .inv in
+    let p = by-sheet _ _ (pre .0) (pre .1) _ _ _ (inv .0) (fits at .0) (fits at .1) _ _ (inv .1) (inv .2) (c .before .before .if2 .taken) in
+    (rw (c .before .step2 .ensures) p, inv .1, c .next-event4 .ensures)
+
+step-requires-3 : tie.Need-step-requires-3 Inv-loop μ-loop
+step-requires-3 c κs = search needs
+
+add-i-2 : tie.Need-add-i-2 Inv-loop μ-loop
+add-i-2 c = search needs
+
+add-j-2 : tie.Need-add-j-2 Inv-loop μ-loop
+add-j-2 c = search needs
+
+next-event-requires-5 : tie.Need-next-event-requires-5 Inv-loop μ-loop
+next-event-requires-5 c κs = search needs
+
+next-event-requires-6 : tie.Need-next-event-requires-6 Inv-loop μ-loop
+next-event-requires-6 c κs = search needs
+
+loop-less-3 : tie.Need-loop-less-3 Inv-loop μ-loop
+loop-less-3 c = search needs
+
+loop-again-3 : tie.Need-loop-again-3 Inv-loop μ-loop
+loop-again-3 c =
+    let at = c .before .before .before .before .before .before .before .before .before .before in
+    let pre = at .before .before .before .before .before .pre in
+    let inv = at .loop .inv in
+    let p = by-both _ _ (pre .0) (pre .1) _ _ _ (inv .0) (fits at .0) (fits at .1) _ _ (inv .1) (inv .2)
+    (c .before .before .before .before .before .before .if1 .left) (c .before .before .before .if2 .left) (c .before .before .before .before .before .before .before .before .before .loop-test .taken) in
+    (rw (c .before .before .step3 .ensures) p, c .before .next-event5 .ensures, c .next-event6 .ensures)
 
 returns : tie.Need-returns Inv-loop μ-loop
-returns c =
-    let at = c .before .before .before in
-    let start = at .before .before .before .before in
-    λ n um us. pass-end _ _ (start .pre .0) (start .pre .1) (at .loop .pass) (at .loop .inv) (c .before .if1 .left) n um us
+returns c = at-end _ _ (c .before .before .before .before .before .before .pre .0) (c .before .before .before .before .before .before .pre .1) _ _ _ (c .before .loop .inv .0) (omega arith)
 
 pub scan-spec : {M : Type 1} → statement M
 scan-spec =
@@ -67,11 +116,26 @@ scan-spec =
     (tie.spec
     Inv-loop
     μ-loop
-    begin-requires
+    next-event-requires
+    next-event-requires-2
     loop-holds
-    add-if1
-    add-if1-2
-    advance-requires
+    add-loop
+    add-loop-2
+    step-requires
+    add-i
+    next-event-requires-3
     loop-less
     loop-again
+    step-requires-2
+    add-j
+    next-event-requires-4
+    loop-less-2
+    loop-again-2
+    step-requires-3
+    add-i-2
+    add-j-2
+    next-event-requires-5
+    next-event-requires-6
+    loop-less-3
+    loop-again-3
     returns)
