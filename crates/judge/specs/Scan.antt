@@ -2,7 +2,7 @@
 use Prim.Native.Nat.{ℕ, zero, suc, _+_}
 use mathlib.Core.Bool.{Bool, true, false, cond, not, _&&_, _||_}
 use mathlib.Core.List.{List}
-use lib.Dec.{eqb, ltb, leb}
+use lib.Dec.{eqb, ltb}
 use lib.ListN.{length, getD}
 use Rattle.rules.specs.Kinds.{LJ, SL, LA, SR, quiet, isJoin, isLeave, isAdd, isRemove}
 use Rattle.event.specs.Word.{tickOf, kindOf}
@@ -72,21 +72,30 @@ abbrev pub headOf : List ℕ → ℕ → Head
 headOf s i = cond (ltb i (length s)) (record { tick = tickOf (getD s i 0); kind = kindOf (getD s i 0) }) (record { tick = never; kind = quiet })
 
 -- the pass before the first tick
-abbrev pub begun : Pass
-begun = record { i = 0; j = 0; tick = 0; seen = start }
+abbrev pub begun : List ℕ → List ℕ → Pass
+begun m s = record { i = 0; j = 0; model = headOf m 0; sheet = headOf s 0; tick = 0; seen = start }
 
--- the pass with the events of the next tick taken: those of tick t, of the model where a says so, of the sheet where b does
-abbrev pub takenAt : Pass → ℕ → Bool → ℕ → Bool → ℕ → Pass
-takenAt p t a k b l = record {
-  i = cond a (p .i + 1) (p .i);
-  j = cond b (p .j + 1) (p .j);
-  tick = t;
-  seen = stepOf (p .seen) t (cond a k quiet) (cond b l quiet);
+-- the pass with the model's next event taken, the sheet's, or both in one tick
+abbrev pub modelTaken : List ℕ → Pass → Head → Pass
+modelTaken m p a =
+    record { i = p .i + 1; j = p .j; model = headOf m (p .i + 1); sheet = p .sheet; tick = a .tick; seen = stepOf (p .seen) (a .tick) (a .kind) quiet }
+
+abbrev pub sheetTaken : List ℕ → Pass → Head → Pass
+sheetTaken s p b =
+    record { i = p .i; j = p .j + 1; model = p .model; sheet = headOf s (p .j + 1); tick = b .tick; seen = stepOf (p .seen) (b .tick) quiet (b .kind) }
+
+abbrev pub bothTaken : List ℕ → List ℕ → Pass → Head → Head → Pass
+bothTaken m s p a b = record {
+  i = p .i + 1;
+  j = p .j + 1;
+  model = headOf m (p .i + 1);
+  sheet = headOf s (p .j + 1);
+  tick = a .tick;
+  seen = stepOf (p .seen) (a .tick) (a .kind) (b .kind);
 }
 
+-- the pass with the events of the next tick taken
 abbrev pub advanced : List ℕ → List ℕ → Pass → Pass
 advanced m s p =
-    let a = headOf m (p .i) in
-    let b = headOf s (p .j) in
-    let of-model = leb (a .tick) (b .tick) in
-    takenAt p (cond of-model (a .tick) (b .tick)) of-model (a .kind) (leb (b .tick) (a .tick)) (b .kind)
+    cond (ltb (p .model .tick) (p .sheet .tick)) (modelTaken m p (p .model))
+    (cond (ltb (p .sheet .tick) (p .model .tick)) (sheetTaken s p (p .sheet)) (bothTaken m s p (p .model) (p .sheet)))

@@ -1,7 +1,6 @@
 // One pass over both strips in tick order. Ticks without events cost nothing: they move nothing.
 ghost use mathlib.Core.Path.{_≡_};
-ghost use mathlib.Core.Bool.{cond};
-ghost use Prim.Native.Nat.{ℕ, _+_, _≤_};
+ghost use Prim.Native.Nat.{ℕ, _≤_};
 ghost use lib.ListN.{length};
 ghost use Rattle.rules.specs.Ranges.{events};
 ghost use Rattle.strip.specs.History.{historyOf};
@@ -33,10 +32,12 @@ pub struct Head {
     pub kind: u32,
 }
 
-// Where the pass stands: the places of the next events, the last tick taken, and what is known after it.
+// Where the pass stands: the places of the next events, what these are, the last tick taken, and what is known after it.
 pub struct Pass {
     pub i: usize,
     pub j: usize,
+    pub model: Head,
+    pub sheet: Head,
     pub tick: u32,
     pub seen: Seen,
 }
@@ -126,12 +127,14 @@ fn next_event(s: &[u32], i: usize) -> Head
 }
 
 // Before the first tick.
-pub fn begin() -> Pass
-    ensures { λ r. ⌜ r ≡ begun ⌝ }
+pub fn begin(m: &[u32], s: &[u32]) -> Pass
+    ensures { λ r. ⌜ r ≡ begun (m .entry .now) (s .entry .now) ⌝ }
 {
     Pass {
         i: 0,
         j: 0,
+        model: next_event(m, 0),
+        sheet: next_event(s, 0),
         tick: 0,
         seen: Seen {
             inside: false,
@@ -141,44 +144,45 @@ pub fn begin() -> Pass
     }
 }
 
-// Of two numbers the first where the test holds, else the second.
-fn pick(when: bool, a: u32, b: u32) -> u32
-    ensures { λ r. ⌜ r ≡ cond when a b ⌝ }
-{
-    if when { a } else { b }
-}
-
-fn place_after(i: usize, taken: bool) -> usize
-    requires { ⌜ i ≤ 4096 ⌝ }
-    ensures { λ r. ⌜ r ≡ cond taken (i + 1) i ⌝ }
-{
-    if taken {
-        return i + 1;
-    }
-    i
-}
-
-// Takes the events of the next tick that has any, of one strip or of both. One step for all three cases, and no branch among them: which strip comes next can't be guessed.
+// Takes the events of the next tick that has any.
 pub fn advance(m: &[u32], s: &[u32], pass: Pass) -> Pass
-    requires { ⌜ (pass .i ≤ events) × (pass .j ≤ events) ⌝ }
+    requires { ⌜ (pass .i ≤ length (m .now)) × (pass .j ≤ length (s .now)) ⌝ }
     ensures { λ r. ⌜ r ≡ advanced (m .entry .now) (s .entry .now) pass ⌝ }
 {
-    let model = next_event(m, pass.i);
-    let sheet = next_event(s, pass.j);
-    let of_model = model.tick <= sheet.tick;
-    let of_sheet = sheet.tick <= model.tick;
-    let tick = pick(of_model, model.tick, sheet.tick);
+    let model = pass.model;
+    let sheet = pass.sheet;
     let seen = pass.seen;
+    if model.tick < sheet.tick {
+        let i = pass.i + 1;
+        return Pass {
+            i,
+            j: pass.j,
+            model: next_event(m, i),
+            sheet,
+            tick: model.tick,
+            seen: step(seen, model.tick, model.kind, rules::QUIET),
+        };
+    }
+    if sheet.tick < model.tick {
+        let j = pass.j + 1;
+        return Pass {
+            i: pass.i,
+            j,
+            model,
+            sheet: next_event(s, j),
+            tick: sheet.tick,
+            seen: step(seen, sheet.tick, rules::QUIET, sheet.kind),
+        };
+    }
+    let i = pass.i + 1;
+    let j = pass.j + 1;
     Pass {
-        i: place_after(pass.i, of_model),
-        j: place_after(pass.j, of_sheet),
-        tick,
-        seen: step(
-            seen,
-            tick,
-            pick(of_model, model.kind, rules::QUIET),
-            pick(of_sheet, sheet.kind, rules::QUIET),
-        ),
+        i,
+        j,
+        model: next_event(m, i),
+        sheet: next_event(s, j),
+        tick: model.tick,
+        seen: step(seen, model.tick, model.kind, sheet.kind),
     }
 }
 

@@ -56,7 +56,7 @@ module _ (m s : List ℕ) (now : ℕ) where
     pub pairs : pairsFrom was 0 (spansIn m s now) ≡ pairsFrom list (so .count) (left holds now (so .first) (p .tick))
 
   module _ (rm : Rising m) (rs : Rising s) where
-    pub going-start : (list : List ℕ) → Going list begun (record { first = 0; count = 0 }) list
+    pub going-start : (list : List ℕ) → Going list (begun m s) (record { first = 0; count = 0 }) list
     going-start list =
         let all : spansIn m s now ≡ left holds now 0 0 = ap (spansFrom holds 0 0) (let e : now ≡ now - 0 = omega arith in e) in
         record {

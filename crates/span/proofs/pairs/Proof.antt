@@ -38,10 +38,7 @@ add-if1-2 : tie.Need-add-if1-2 Inv-loop μ-loop
 add-if1-2 c = search needs
 
 advance-requires : tie.Need-advance-requires Inv-loop μ-loop
-advance-requires c κs =
-    let x = c .before .before .loop .inv .passed in
-    let pre = c .before .before .before .before .before .before .before .pre in
-    (omega (arith, x .model .inside, pre .short-m), omega (arith, x .sheet .inside, pre .short-s))
+advance-requires c κs = (c .before .before .loop .inv .passed .model .inside, c .before .before .loop .inv .passed .sheet .inside)
 
 -- the pass has turned
 went : (c : tie.After-advance Inv-loop μ-loop)

@@ -1,0 +1,15 @@
+use borrow.Author.Needs.{needs}
+use Rattle.judge.proofs.scan.begin.Statement.{statement}
+use Rattle.judge.proofs.scan.begin.Tie as tie
+
+next-event-requires : tie.Need-next-event-requires
+next-event-requires c κs = search needs
+
+next-event-requires-2 : tie.Need-next-event-requires-2
+next-event-requires-2 c κs = search needs
+
+returns : tie.Need-returns
+returns c = cc
+
+pub begin-spec : {M : Type 1} → statement M
+begin-spec = tie.close (tie.spec next-event-requires next-event-requires-2 returns)
