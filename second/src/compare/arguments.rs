@@ -16,9 +16,7 @@ pub fn arguments(chance: &mut Chance, book: &[u8]) -> Vec<Vec<u8>> {
     match chance.within(0..=9) {
         0..=2 => arguments.truncate(1),
         3..=6 => (),
-        7 => {
-            arguments.push(carrier(chance, book, Side::Sheet));
-        }
+        7 => arguments.push(carrier(chance, book, Side::Sheet)),
         _ => {
             let place = chance.place(2);
             let side = [Side::Model, Side::Sheet][place];

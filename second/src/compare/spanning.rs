@@ -31,9 +31,16 @@ pub fn strips(chance: &mut Chance) -> (Vec<u8>, Vec<u8>, u32) {
         true => judging::strips(chance),
         false => many_spans(chance),
     };
-    if chance.percent(40) {
-        let last = last_tick(&model).max(last_tick(&sheet)).min(LAST_TICK - 1);
-        now = chance.one_of(&[last, last, last + 1, LAST_TICK]);
+    let last = last_tick(&model).max(last_tick(&sheet)).min(LAST_TICK);
+    match chance.within(0..=9) {
+        0..=3 => now = chance.one_of(&[last, last, LAST_TICK.min(last + 1), LAST_TICK]),
+        4 => {
+            // The same events, the last of them in the last tick.
+            now = LAST_TICK;
+            model = later(&model, LAST_TICK - last);
+            sheet = later(&sheet, LAST_TICK - last);
+        }
+        _ => (),
     }
     if chance.percent(3) {
         let strip = if chance.percent(50) { &mut model } else { &mut sheet };
@@ -44,6 +51,11 @@ pub fn strips(chance: &mut Chance) -> (Vec<u8>, Vec<u8>, u32) {
 
 fn last_tick(strip: &[u8]) -> u32 {
     words(strip).last().map_or(0, |&word| Event::from_word(word).tick)
+}
+
+fn later(strip: &[u8], ticks: u32) -> Vec<u8> {
+    let moved = |word: u32| word.wrapping_add(Event { tick: ticks, ..Event::from_word(0) }.word());
+    words(strip).into_iter().flat_map(|word| moved(word).to_le_bytes()).collect()
 }
 
 /// One carrier comes and goes, mostly so that a grant begins and ends each time; the other
