@@ -17,7 +17,7 @@ use second::book;
 use second::group::Group;
 use second::judge::{events, words};
 use second::listing::listing;
-use second::spans::{spans, spans_tick_by_tick};
+use second::spans::{listed, spans, spans_tick_by_tick};
 use second::spans_of_book::USAGE;
 use second::store::deliver;
 use second::wrong::Reading;
@@ -54,7 +54,10 @@ fn spans_of_random_strips_tick_by_tick() {
         let (model, sheet) = (words(case.file(b"model0")), words(case.file(b"sheet0")));
         let line = String::from_utf8_lossy(&case.lines[0].text);
         let now = line.split(' ').nth(2).and_then(|now| now.parse().ok()).unwrap();
-        if let (true, Ok(found)) = (now <= NEAR, spans(&model, &sheet, now)) {
+        let Ok(found) = spans(&model, &sheet, now) else { continue };
+        // As the header says.
+        assert!(listed(&found, model.len() + sheet.len()).is_ok());
+        if now <= NEAR {
             assert_eq!(found, spans_tick_by_tick(&events(&model), &events(&sheet), now));
             counts.insert(found.len());
         }
