@@ -47,21 +47,21 @@ fn bytes(words: &[u32]) -> Vec<u8> {
     words.iter().flat_map(|word| word.to_le_bytes()).collect()
 }
 
-/// Compares everything; the first case that differs is given back.
+/// Compares everything; the first case that differs is given back. The programs come first:
+/// a wrong one is found in a moment.
 pub fn exhaustive(programs: &Programs) -> io::Result<Option<Case>> {
     println!("exhaustive: {}", gate::notice());
-    if let Some(case) = in_process() {
-        return Ok(Some(case));
-    }
     if programs.listing.is_some() || programs.spans.is_some() {
         if let Some(case) = by_books(programs)? {
             return Ok(Some(case));
         }
     }
     if programs.keeper.is_some() {
-        return by_keeper(programs);
+        if let Some(case) = by_keeper(programs)? {
+            return Ok(Some(case));
+        }
     }
-    Ok(None)
+    Ok(in_process())
 }
 
 fn in_process() -> Option<Case> {
@@ -226,7 +226,7 @@ fn by_books(programs: &Programs) -> io::Result<Option<Case>> {
         }
     }
     println!(
-        "exhaustive: the same histories in {done} books through listing and spans in {:.1} s",
+        "exhaustive: all histories in {done} books through listing and spans in {:.1} s",
         progress.seconds()
     );
     Ok(None)
@@ -246,7 +246,7 @@ fn by_keeper(programs: &Programs) -> io::Result<Option<Case>> {
         progress.show(place as u64 + 1);
     }
     println!(
-        "exhaustive: the same histories, {reads} reads, through keeper in {:.1} s",
+        "exhaustive: all histories, {reads} reads, through keeper in {:.1} s",
         progress.seconds()
     );
     Ok(None)
