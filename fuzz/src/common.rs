@@ -1,4 +1,4 @@
-//! What the three fuzzers share: libFuzzer's entry points, chance, the tally of answers.
+//! What the fuzzers share: libFuzzer's entry points, chance, the tally of answers.
 
 use second::wrong::{reading_from_environment, Reading};
 use std::collections::BTreeMap;

@@ -43,7 +43,8 @@ impl Expected {
 
 pub struct Console {
     input: Vec<u8>,
-    at: usize,
+    /// How much of the input was handed over.
+    pub at: usize,
     /// Line ends among what was handed over.
     lines: usize,
     /// 0: every call moves all it can; else few bytes, as a pipe may.
@@ -53,16 +54,36 @@ pub struct Console {
     pub folder: Folder,
     open: BTreeMap<i32, Open>,
     pub expected: Option<Expected>,
+    /// Without the program's own name.
+    arguments: Vec<Vec<u8>>,
+    error: i32,
 }
 
 impl Console {
-    pub fn new(input: &[u8], step: u8, folder: Folder, expected: Option<Expected>) -> Console {
-        let (input, output, open) = (input.to_vec(), Vec::new(), BTreeMap::new());
-        Console { input, at: 0, lines: 0, step, calls: 0, output, folder, open, expected }
+    pub fn new(
+        input: &[u8],
+        step: u8,
+        folder: Folder,
+        expected: Option<Expected>,
+        arguments: &[Vec<u8>],
+    ) -> Console {
+        Console {
+            input: input.to_vec(),
+            at: 0,
+            lines: 0,
+            step,
+            calls: 0,
+            output: Vec::new(),
+            folder,
+            open: BTreeMap::new(),
+            expected,
+            arguments: arguments.to_vec(),
+            error: 0,
+        }
     }
 
     fn empty() -> Console {
-        Console::new(&[], 0, Folder::new(), None)
+        Console::new(&[], 0, Folder::new(), None, &[])
     }
 
     /// How many bytes a call moves.
@@ -209,10 +230,36 @@ pub unsafe extern "C" fn rattle_open_to_overwrite(path: *const i8, _mode: u32) -
 }
 
 #[no_mangle]
-pub extern "C" fn rattle_set_errno(_error: i32) {}
+pub extern "C" fn rattle_set_errno(error: i32) {
+    with(|console| console.error = error);
+}
 
-/// The program's own name alone.
+#[no_mangle]
+pub extern "C" fn rattle_errno() -> i32 {
+    with(|console| console.error)
+}
+
+/// The program's own name among them.
 #[no_mangle]
 pub extern "C" fn rattle_arg_count() -> usize {
-    1
+    with(|console| 1 + console.arguments.len())
+}
+
+/// An argument's length, with the argument at the start of the buffer; -1 where there is none; -2 where
+/// it doesn't fit, and then the buffer is full.
+///
+/// # Safety
+/// The buffer is lent.
+#[no_mangle]
+pub unsafe extern "C" fn rattle_arg(place: usize, buffer: *mut u8, room: usize) -> isize {
+    let argument = with(|console| match place.checked_sub(1) {
+        None => Some(b"program".to_vec()),
+        Some(place) => console.arguments.get(place).cloned(),
+    });
+    let Some(argument) = argument else { return -1 };
+    std::ptr::copy_nonoverlapping(argument.as_ptr(), buffer, argument.len().min(room));
+    if argument.len() > room {
+        return -2;
+    }
+    argument.len() as isize
 }

@@ -5,6 +5,7 @@
 mod books;
 mod common;
 mod console;
+mod escape;
 mod places;
 mod scripts;
 mod stores;
@@ -12,6 +13,7 @@ mod words;
 
 use common::{case_wanted, differs, hexadecimal, mutate_bytes, reading, tally, Chance};
 use console::{Console, Expected, Folder, BROKEN, FULL};
+use escape::escape;
 use second::files::{CantOpen, Files, Memory};
 use second::keeper::{run, Keeper};
 use second::limits::{BOOK_BYTES, STORE_BYTES};
@@ -119,7 +121,7 @@ fn check(bytes: &[u8]) {
     let mut said = Said(Expected::default());
     let mut keeper = Keeper::new(Disk(Memory { files: folder.clone() }), reading());
     run(&mut keeper, &input.script[..], &mut said).expect("memory takes every byte");
-    let console = Console::new(&input.script, input.step, folder, Some(said.0));
+    let console = Console::new(&input.script, input.step, folder, Some(said.0), &[]);
     let console = console::run(console, || unsafe { gate_main() });
     let expected = console.expected.as_ref().expect("it was given");
     expected.compare("the answers", &console.output, expected.output.len());
@@ -169,17 +171,6 @@ fn print_case(input: &Input) {
     for line in script.split(|&byte| byte == b'\n') {
         println!("line both {}", escape(line));
     }
-}
-
-/// As cases are written: printable bytes as they are, the others as \xNN.
-fn escape(bytes: &[u8]) -> String {
-    let last = bytes.len().saturating_sub(1);
-    let shown = |(place, &byte): (usize, &u8)| match byte {
-        b'!'..=b'~' if byte != b'\\' => (byte as char).to_string(),
-        b' ' if place != last => " ".to_string(),
-        _ => format!("\\x{byte:02x}"),
-    };
-    bytes.iter().enumerate().map(shown).collect()
 }
 
 fn mutate(bytes: &mut Vec<u8>, most: usize, chance: &mut Chance) {

@@ -21,7 +21,7 @@ extern "C" {
 
 fn check(input: &[u8]) {
     if case_wanted() {
-        println!("trial listing\nfile both book {}", hexadecimal(input));
+        println!("trial book\nfile both book {}", hexadecimal(input));
         return;
     }
     compare(input);
@@ -37,7 +37,7 @@ fn compare(input: &[u8]) {
     let second = second::listing::listing(input, reading()).into_bytes();
     // Pipes hand over what they have: the book comes in parts now and then.
     let step = input.iter().fold(0u8, |sum, byte| sum.wrapping_add(*byte)) % 8;
-    let console = Console::new(input, step, Folder::new(), None);
+    let console = Console::new(input, step, Folder::new(), None, &[]);
     let console = console::run(console, || unsafe { gate_main() });
     if console.output != second {
         differs("listing", &console.output, &second);

@@ -44,6 +44,14 @@ pub struct DeliveryAnswer {
     pub length: u32,
 }
 
+#[repr(C)]
+#[derive(Clone, Copy, Debug, PartialEq, Eq)]
+pub struct SpansAnswer {
+    pub code: u32,
+    pub place: u32,
+    pub count: u32,
+}
+
 /// A part of a lent list: which list, its first word, how many words.
 #[repr(C)]
 #[derive(Clone, Copy, Debug, PartialEq, Eq)]
@@ -58,6 +66,7 @@ const _: () = assert!(size_of::<ValueAnswer>() == 8);
 const _: () = assert!(size_of::<BookReadAnswer>() == 2296);
 const _: () = assert!(size_of::<BookWriteAnswer>() == 16);
 const _: () = assert!(size_of::<DeliveryAnswer>() == 12);
+const _: () = assert!(size_of::<SpansAnswer>() == 12);
 const _: () = assert!(size_of::<Part>() == 24);
 
 /// Number and place of a refusal, 0 where it has none.
@@ -99,6 +108,13 @@ impl From<Result<usize, Refusal>> for DeliveryAnswer {
     fn from(answer: Result<usize, Refusal>) -> DeliveryAnswer {
         let (code, place) = answer.err().map_or((0, 0), numbers);
         DeliveryAnswer { code, place, length: answer.unwrap_or(0) as u32 }
+    }
+}
+
+impl From<Result<usize, Refusal>> for SpansAnswer {
+    fn from(answer: Result<usize, Refusal>) -> SpansAnswer {
+        let (code, place) = answer.err().map_or((0, 0), numbers);
+        SpansAnswer { code, place, count: answer.unwrap_or(0) as u32 }
     }
 }
 

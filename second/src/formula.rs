@@ -109,11 +109,13 @@ impl History {
         )
     }
 
-    /// The grant at the end of the history: either formula holds there.
+    /// The grant at a tick: either formula holds there.
+    pub fn grant_at(&self, t: usize) -> bool {
+        self.first(t) || self.second(t)
+    }
+
+    /// The grant at the end of the history.
     pub fn grant(&self) -> bool {
-        match self.ticks.len() {
-            0 => false,
-            count => self.first(count - 1) || self.second(count - 1),
-        }
+        self.ticks.len().checked_sub(1).is_some_and(|last| self.grant_at(last))
     }
 }

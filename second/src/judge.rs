@@ -38,7 +38,8 @@ pub fn judge(model: &[u32], sheet: &[u32], now: u32) -> Result<Verdict, Refusal>
     Ok(verdict(&History::of_event_ticks(&events(model), &events(sheet))))
 }
 
-fn check_call(model: &[u32], sheet: &[u32], now: u32) -> Result<(), Refusal> {
+/// What a call on two strips is refused for. Refusals 10 to 14, in that order.
+pub fn check_call(model: &[u32], sheet: &[u32], now: u32) -> Result<(), Refusal> {
     if now > LAST_TICK {
         return Err(Refusal::plain(refusal::NOW));
     }

@@ -15,6 +15,8 @@ pub mod limits;
 pub mod listing;
 pub mod record;
 pub mod refusal;
+pub mod spans;
+pub mod spans_of_book;
 pub mod store;
 pub mod wrong;
 

@@ -26,6 +26,9 @@ pub const DELIVERY_SHEET: u64 = 8;
 /// Most groups in a station's list.
 pub const STATION_GROUPS: usize = 16;
 
+/// The most digits in an argument of `spans`.
+pub const ARGUMENT_DIGITS: usize = 20;
+
 /// The keeper's own limits.
 pub const LINE_BYTES: usize = 255;
 pub const FILE_NAME_BYTES: usize = 200;

@@ -28,6 +28,7 @@ pub const STORE: u32 = 31;
 pub const SHEET_NOT_IN_STORE: u32 = 32;
 pub const SHEET_ENTRY: u32 = 33;
 pub const DELIVERY_BUFFER: u32 = 34;
+pub const SPAN_LIST: u32 = 40;
 
 /// A refusal's number, and the place (or the sheet) it names where it has one.
 #[derive(Clone, Copy, Debug, PartialEq, Eq)]

@@ -10,8 +10,10 @@ use crate::keeper::{run, Keeper, HELP};
 use crate::listing::listing;
 use crate::record::GroupRecord;
 use crate::refusal::Refusal;
+use crate::spans::{listed, spans, spans_of_history, spans_tick_by_tick};
+use crate::spans_of_book::{spans_of_book, Asked};
 use crate::store::deliver;
-use crate::wrong::Reading;
+use crate::wrong::{spans_by, verdict_by, Reading, READINGS};
 use std::mem::size_of;
 
 const FIRST_BOOK: [u32; 8] = [4610, 6144, 9730, 14849, 16386, 16901, 24065, 27648];
@@ -124,6 +126,80 @@ fn the_evidence() {
     assert_eq!(evidence(&model, &sheet, 4), &model[..0]);
 }
 
+/// The numbers of the spans, and they are the same tick by tick where now is near.
+fn spans_of(model: &str, sheet: &str, now: u32) -> Vec<u32> {
+    let (model, sheet) = (strip(model), strip(sheet));
+    let found = spans(&model, &sheet, now).unwrap();
+    let numbers = listed(&found, model.len() + sheet.len()).unwrap();
+    if now <= 100 {
+        let (model, sheet) = (judge::events(&model), judge::events(&sheet));
+        assert_eq!(spans_tick_by_tick(&model, &sheet, now), found, "{model:?} | {sheet:?} | {now}");
+    }
+    numbers
+}
+
+#[test]
+fn the_spans_of_the_thirteen_histories() {
+    for (model, sheet, now, verdict) in thirteen_histories() {
+        let ends_now = spans_of(model, sheet, now).last() == Some(&now);
+        assert_eq!(ends_now, verdict.is_granted(), "{model} | {sheet} | {now}");
+    }
+}
+
+#[test]
+fn spans_at_their_edges() {
+    const NONE: [u32; 0] = [];
+    assert_eq!(spans_of("", "", 0), NONE);
+    assert_eq!(spans_of("", "", 1_000_000), NONE);
+    assert_eq!(spans_of("SJ1", "SA1", 1), [1, 1]);
+    assert_eq!(spans_of("SJ1 SL2", "SA1", 9), [1, 1], "in tick 1 only");
+    assert_eq!(spans_of("SJ1", "SA1 SR3 SA4", 4), [1, 2, 4, 4], "one tick between");
+    assert_eq!(spans_of("SJ1 SL2 SJ3", "SA1 LR2 SA3", 3), [1, 1, 3, 3], "both in and out again");
+    assert_eq!(spans_of("LJ1 SL2 LJ3 SL4", "LA1", 5), [1, 1, 3, 3], "a rejoin in the next tick");
+    assert_eq!(spans_of("SJ1 SL2 SJ3", "LA1", 5), [1, 1], "a strict rejoin");
+    assert_eq!(spans_of("SJ1", "SA2 LR3 SA4 LR5 LA6", 7), [2, 7], "a moment within a span");
+    assert_eq!(spans_of("SJ1 LL3 LJ5 SL7", "SA2 LR4", 9), [2, 6], "leaves that end nothing");
+    assert_eq!(spans_of("SJ1", "LA5", 9), [5, 9], "from the add, not the join");
+    assert_eq!(spans_of("LJ5", "LA1", 9), [5, 9], "from the join, not the add");
+    assert_eq!(spans_of("SJ2", "SA3", 1_000_000), [3, 1_000_000]);
+    assert_eq!(spans_of("SJ1000000", "SA999999 SR1000000", 1_000_000), NONE);
+    assert_eq!(spans_of("SJ999999 SL1000000", "SA999999", 1_000_000), [999_999, 999_999]);
+}
+
+#[test]
+fn spans_refused() {
+    let (model, sheet) = (strip("SJ1"), strip("SA1 SR3 SA4"));
+    let ask = |model: &[u32], sheet: &[u32], now, list| {
+        spans(model, sheet, now).and_then(|spans| listed(&spans, list))
+    };
+    let refused = |number| Err(Refusal::plain(number));
+    assert_eq!(ask(&model, &sheet, 4, 4), Ok(vec![1, 2, 4, 4]));
+    assert_eq!(ask(&model, &sheet, 4, 3), refused(40));
+    assert_eq!(ask(&model, &sheet, 4, 0), refused(40));
+    assert_eq!(ask(&model, &[], 4, 0), Ok(vec![]));
+    assert_eq!(ask(&sheet, &model, 1_000_001, 0), refused(10));
+    assert_eq!(ask(&[0; 4_097], &[0; 4_097], 4, 0), refused(11));
+    assert_eq!(ask(&[0; 4_096], &[0; 4_097], 4, 0), refused(12));
+    assert_eq!(ask(&sheet, &model, 4, 0), Err(Refusal::at(13, 0)));
+    assert_eq!(ask(&model, &sheet, 3, 0), Err(Refusal::at(14, 2)));
+}
+
+/// A full strip of spans of one tick each, far apart and close.
+#[test]
+fn spans_of_a_full_strip() {
+    for step in [1, 244] {
+        let event = |place: u32| {
+            let kind = if place.is_multiple_of(2) { Kind::LA } else { Kind::SR };
+            Event { tick: 1 + step * place, kind, number: 9 }
+        };
+        let sheet: Vec<u32> = (0..4_096).map(|place| event(place).word()).collect();
+        let found = spans(&strip("SJ1"), &sheet, 1_000_000).unwrap();
+        let expected = (0..2_048).flat_map(|span| [1 + 2 * step * span, step * (2 * span + 1)]);
+        assert_eq!(listed(&found, 4_096), Ok(expected.collect()));
+        assert_eq!(listed(&found, 4_095), Err(Refusal::plain(40)));
+    }
+}
+
 #[test]
 fn the_largest_word() {
     let largest = Event { tick: 1_000_000, kind: Kind::LR, number: 255 };
@@ -150,6 +226,44 @@ fn the_two_books() {
     assert_eq!(print(&book(&FIRST_BOOK, 5)), "refused 24 at 7\n");
     assert_eq!(print(&book(&[4610, 8706], 5)), "refused 26 at 1\n");
     assert_eq!(print(&book(&FIRST_BOOK, 1_000_001)), "refused 22\n");
+}
+
+/// What `spans` prints, or None for its usage.
+fn print_spans(arguments: &[&str], book: &[u8]) -> Option<String> {
+    Asked::by(arguments).map(|asked| spans_of_book(book, &asked, Reading::Right))
+}
+
+#[test]
+fn the_spans_of_the_two_books() {
+    let first = book::write(6, 3, &FIRST_BOOK, 52).unwrap();
+    let print = |arguments: &[&str]| print_spans(arguments, &first).unwrap();
+    let head = "group 3 ticks 6 records 8\n";
+    assert_eq!(print(&[]), format!("{head}2 0 1 5\n5 1 4 6\nspans 2\n"));
+    assert_eq!(print(&["2"]), format!("{head}2 0 1 5\nspans 1\n"));
+    assert_eq!(print(&["00000000000000000005", "001"]), format!("{head}5 1 4 6\nspans 1\n"));
+    assert_eq!(print(&["5", "0"]), format!("{head}spans 0\n"));
+    let second = book::write(5, 3, &FIRST_BOOK[..7], 48).unwrap();
+    let head = "group 3 ticks 5 records 7\n";
+    let expected = format!("{head}2 0 1 5\n5 1 4 5\nspans 2\n");
+    assert_eq!(print_spans(&[], &second).unwrap(), expected);
+    assert_eq!(print_spans(&["63", "255"], &second[..47]).unwrap(), "refused 21\n");
+    let twice = bytes(&[28, 5, 2, 20, 3, 4610, 4610]);
+    assert_eq!(print_spans(&["0"], &twice).unwrap(), "refused 25 at 1\n");
+}
+
+#[test]
+fn arguments_that_spans_does_not_take() {
+    for model in ["", "64", "-1", "+1", " 1", "1 ", "x", "1x", "0x1", "--help", "4294967296"] {
+        assert_eq!(print_spans(&[model], &[]), None, "{model}");
+        assert_eq!(print_spans(&[model, "0"], &[]), None, "{model}");
+    }
+    for sheet in
+        ["", "256", "18446744073709551616", "99999999999999999999", "000000000000000000001"]
+    {
+        assert_eq!(print_spans(&["0", sheet], &[]), None, "{sheet}");
+    }
+    assert_eq!(print_spans(&["0", "0", "0"], &[]), None);
+    assert!(print_spans(&["63", "255"], &[]).is_some());
 }
 
 #[test]
@@ -374,6 +488,32 @@ fn the_law_of_one_tick_agrees_with_the_formula() {
             assert_eq!(group.close().map(|_| ()), lent.close());
             closed = GroupRecord::of_close(&group, &closed);
             assert_eq!((lent, closed), (closed, GroupRecord::of_history(&group)), "{group:?}");
+        }
+    }
+}
+
+/// Both ways to the spans agree on every history of four ticks and one more; and a wrong
+/// reading's spans, too, end at now where its verdict there is a grant.
+#[test]
+fn the_spans_tick_by_tick() {
+    const TICKS: u32 = 4;
+    for code in 0..9_u32.pow(TICKS) {
+        let mut group = Group::default();
+        for tick in 0..TICKS {
+            let choices = code / 9_u32.pow(tick) % 9;
+            for (side, choice) in [(Side::Model, choices % 3), (Side::Sheet, choices / 3)] {
+                choose(&group, side, choice).map(|kind| group.request(kind, 0));
+            }
+            group.close().unwrap();
+        }
+        let (model, sheet) = (group.strip(Side::Model, 0), group.strip(Side::Sheet, 0));
+        let now = TICKS + 1;
+        let found = spans_of_history(&History::of_event_ticks(&model, &sheet), now);
+        assert_eq!(found, spans_tick_by_tick(&model, &sheet, now), "{model:?} {sheet:?}");
+        for (_, reading) in READINGS {
+            let last = spans_by(reading, &model, &sheet, now).last().map(|span| span.last);
+            let granted = verdict_by(reading, &model, &sheet).is_granted();
+            assert_eq!(last == Some(now), granted, "{reading:?} {model:?} {sheet:?}");
         }
     }
 }

@@ -4,6 +4,7 @@
 use crate::event::{Event, Kind};
 use crate::formula::History;
 use crate::judge::{verdict, Cause, Moment, Verdict};
+use crate::spans::{joined, spans_of_history, Span};
 
 #[derive(Clone, Copy, Debug, Default, PartialEq, Eq)]
 pub enum Reading {
@@ -48,6 +49,24 @@ pub fn verdict_by(reading: Reading, model: &[Event], sheet: &[Event]) -> Verdict
             verdict(&History::of_event_ticks(from_last_entry(model), from_last_entry(sheet)))
         }
     }
+}
+
+/// The spans of a reading on the strips of one pair: a wrong one is asked as of each tick with
+/// an event, and its answer stands up to the next.
+pub fn spans_by(reading: Reading, model: &[Event], sheet: &[Event], now: u32) -> Vec<Span> {
+    let history = History::of_event_ticks(model, sheet);
+    if matches!(reading, Reading::Right | Reading::Entry) {
+        return spans_of_history(&history, now);
+    }
+    let up_to = |strip: &[Event], tick| strip.partition_point(|event| event.tick <= tick);
+    let grants = |tick| {
+        let (model, sheet) = (&model[..up_to(model, tick)], &sheet[..up_to(sheet, tick)]);
+        verdict_by(reading, model, sheet).is_granted()
+    };
+    let firsts = history.ticks.iter().map(|happening| happening.tick);
+    let lasts = firsts.clone().skip(1).map(|next| next - 1).chain([now]);
+    let parts = firsts.zip(lasts).map(|(first, last)| Span { first, last });
+    joined(parts.filter(|part| grants(part.first)))
 }
 
 fn today(model: &[Event], sheet: &[Event]) -> Verdict {

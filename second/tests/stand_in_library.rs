@@ -1,14 +1,18 @@
 //! Stands in for the gate's C library while compare is tried: the second program under the
-//! gate's names. SECOND_WRONG_LIBRARY names the call that is to be wrong, in one way each.
+//! gate's names. SECOND_WRONG_LIBRARY names the call that is to be wrong, in one way each; the
+//! spans have further names, for the ways in which they may be misread.
 
 use second::answers::{
-    BookReadAnswer, BookWriteAnswer, DeliveryAnswer, GroupAnswer, Part, ValueAnswer,
+    BookReadAnswer, BookWriteAnswer, DeliveryAnswer, GroupAnswer, Part, SpansAnswer, ValueAnswer,
 };
 use second::book;
+use second::event::Event;
+use second::formula::History;
 use second::group::{self, Group};
 use second::judge;
 use second::record::GroupRecord;
 use second::refusal::{self, Refusal};
+use second::spans::{listed, spans, Span, SPAN_NUMBERS};
 use std::slice::{from_raw_parts, from_raw_parts_mut};
 use std::sync::OnceLock;
 
@@ -198,4 +202,86 @@ pub unsafe extern "C" fn ferrulebee_evidence(
     let part = Part::of(judge::evidence(model, sheet, now), [model, sheet]);
     let most = if wrong("evidence") { 1 } else { usize::MAX };
     Part { count: part.count.min(most), ..part }
+}
+
+/// Wrong: where not all pairs fit, those that do are written.
+#[no_mangle]
+pub unsafe extern "C" fn ferrulebee_spans(
+    model: *const u32,
+    model_words: usize,
+    sheet: *const u32,
+    sheet_words: usize,
+    now: u32,
+    list: *mut u32,
+    list_words: usize,
+) -> SpansAnswer {
+    let (model, sheet) = (from_raw_parts(model, model_words), from_raw_parts(sheet, sheet_words));
+    let list = from_raw_parts_mut(list, list_words);
+    let found = spans(model, sheet, now).map(|spans| misread(spans, model, sheet, now));
+    let answer =
+        found.as_ref().map_err(|refusal| *refusal).and_then(|spans| listed(spans, list.len()));
+    let written = match (&answer, &found) {
+        (Ok(numbers), _) => numbers.clone(),
+        (Err(_), Ok(spans)) if wrong("spans") => {
+            listed(&spans[..list.len() / SPAN_NUMBERS], list.len()).unwrap_or_default()
+        }
+        _ => Vec::new(),
+    };
+    list[..written.len()].copy_from_slice(&written);
+    SpansAnswer::from(answer.map(|numbers| numbers.len() / SPAN_NUMBERS))
+}
+
+/// The spans by one of the readings that look right and aren't.
+fn misread(mut spans: Vec<Span>, model: &[u32], sheet: &[u32], now: u32) -> Vec<Span> {
+    let (model, sheet) = (judge::events(model), judge::events(sheet));
+    let history = History::of_event_ticks(&model, &sheet);
+    if wrong("spans-gap") {
+        // Two spans with one tick between them are one.
+        spans = merged(spans, 2);
+    }
+    if wrong("spans-moment") {
+        // Each moment begins a span.
+        let moments = (0..history.ticks.len()).filter(|&t| history.moment(t));
+        moments.for_each(|t| split(&mut spans, history.ticks[t].tick));
+    }
+    if wrong("spans-last") {
+        spans.pop();
+    }
+    for span in &mut spans {
+        let joins = model.iter().filter(|event| event.kind.enters() && event.tick <= span.first);
+        if wrong("spans-strict") && span.last < now {
+            // The tick of the strict event is still within.
+            span.last += 1;
+        }
+        if wrong("spans-open") && span.last == now {
+            // The last event's tick is the end.
+            span.last = history.ticks.last().map_or(now, |happening| happening.tick);
+        }
+        if wrong("spans-join") {
+            // It begins when the model joined, though the add came later.
+            span.first = joins.map(|join: &Event| join.tick).max().unwrap_or(span.first);
+        }
+    }
+    spans
+}
+
+/// The spans with those made one that begin so few ticks after another's end.
+fn merged(spans: Vec<Span>, within: u32) -> Vec<Span> {
+    let mut all: Vec<Span> = Vec::new();
+    for span in spans {
+        match all.last_mut() {
+            Some(before) if span.first <= before.last + within => before.last = span.last,
+            _ => all.push(span),
+        }
+    }
+    all
+}
+
+/// The span that a tick lies in becomes two, the second from that tick on.
+fn split(spans: &mut Vec<Span>, tick: u32) {
+    if let Some(place) = spans.iter().position(|span| span.first < tick && tick <= span.last) {
+        let second = Span { first: tick, last: spans[place].last };
+        spans[place].last = tick - 1;
+        spans.insert(place + 1, second);
+    }
 }

@@ -11,8 +11,9 @@ pub type Folder = BTreeMap<Vec<u8>, Vec<u8>>;
 pub enum Trial {
     /// A run of calls on the C library, a call a line.
     Library,
-    /// The file `book` through `listing`.
-    Listing,
+    /// The file `book` through `listing`, and through `spans` without arguments and with the
+    /// lines as its arguments.
+    Book,
     /// A script through `keeper`, compared with the second program.
     Keeper,
     /// Two scripts through `keeper`: the model's answers compared with each other.
@@ -31,7 +32,7 @@ pub enum Run {
 
 const TRIALS: [(&str, Trial); 4] = [
     ("library", Trial::Library),
-    ("listing", Trial::Listing),
+    ("book", Trial::Book),
     ("keeper", Trial::Keeper),
     ("pair", Trial::Pair),
 ];
@@ -66,17 +67,32 @@ impl Case {
         Case { trial, open_end: false, files: Vec::new(), lines: Vec::new() }
     }
 
-    pub fn listing(book: Vec<u8>) -> Case {
-        let mut case = Case::new(Trial::Listing);
+    pub fn book(book: Vec<u8>, arguments: &[Vec<u8>]) -> Case {
+        let mut case = Case::new(Trial::Book);
         case.add_file(Run::Both, b"book", book);
+        arguments.iter().for_each(|argument| case.add_line(Run::Both, argument));
+        case
+    }
+
+    fn strips(model: Vec<u8>, sheet: Vec<u8>) -> Case {
+        let mut case = Case::new(Trial::Library);
+        case.add_file(Run::Both, b"model0", model);
+        case.add_file(Run::Both, b"sheet0", sheet);
         case
     }
 
     pub fn judge(model: Vec<u8>, sheet: Vec<u8>, now: u32) -> Case {
-        let mut case = Case::new(Trial::Library);
-        case.add_file(Run::Both, b"model0", model);
-        case.add_file(Run::Both, b"sheet0", sheet);
+        let mut case = Case::strips(model, sheet);
         case.add_line(Run::Both, format!("judge 0 {now}").as_bytes());
+        case
+    }
+
+    /// A call for each list, with so much more room than is needed.
+    pub fn spans(model: Vec<u8>, sheet: Vec<u8>, now: u32, more: &[i64]) -> Case {
+        let mut case = Case::strips(model, sheet);
+        for more in more {
+            case.add_line(Run::Both, format!("spans 0 {now} {more:+}").as_bytes());
+        }
         case
     }
 
@@ -108,6 +124,11 @@ impl Case {
     pub fn folder(&self, run: Run) -> Folder {
         let files = self.files.iter().filter(|file| file.run.is_in(run));
         files.map(|file| (file.name.clone(), file.bytes.clone())).collect()
+    }
+
+    /// The arguments of `spans`.
+    pub fn arguments(&self) -> Vec<&[u8]> {
+        self.lines_of(Run::Left).map(|line| line.text.as_slice()).collect()
     }
 
     /// The bytes of a file, empty when it isn't there.

@@ -1,5 +1,6 @@
 //! Runs a case through the gate and through the second program, and says where they differ.
 
+use crate::agreement::disagreement;
 use crate::case::{escape, Case, Folder, Run, Trial};
 use crate::library::{self, met::Met};
 use crate::programs::{Outcome, Programs};
@@ -7,6 +8,7 @@ use second::files::Memory;
 use second::keeper::Keeper;
 use second::limits::STORE_HEADER;
 use second::listing::listing;
+use second::spans_of_book::{spans_of_book, Asked, USAGE};
 use second::wrong::Reading;
 use std::io;
 
@@ -35,7 +37,10 @@ pub fn sort_of(line: &str) -> String {
         first @ ("refused" | "what?" | "can't") => {
             format!("{first} {}", words.next().unwrap_or(""))
         }
-        first if first.parse::<u32>().is_ok() => "grant".to_string(),
+        first if first.parse::<u32>().is_ok() => {
+            let names_a_moment = matches!(words.nth(1), Some("add" | "join"));
+            if names_a_moment { "grant" } else { "span" }.to_string()
+        }
         first => first.to_string(),
     }
 }
@@ -56,24 +61,54 @@ pub fn expected_of_keeper(case: &Case, run: Run) -> Expected {
 pub fn difference(case: &Case, programs: &Programs) -> io::Result<Option<Difference>> {
     match case.trial {
         Trial::Library => library::difference(case, &mut Met::default()),
-        Trial::Listing => listing_difference(case, programs),
+        Trial::Book => book_difference(case, programs),
         Trial::Keeper => keeper_difference(case, programs),
         Trial::Pair => pair_difference(case, programs),
     }
 }
 
-fn listing_difference(case: &Case, programs: &Programs) -> io::Result<Option<Difference>> {
-    let book = case.file(b"book");
-    let expected = listing(book, Reading::Right).into_bytes();
-    let got = programs.run_listing(book)?;
-    if let Some(trouble) = got.trouble {
-        return Ok(Some(Difference::trouble(format!("listing {trouble}"))));
+/// What `spans` prints for its arguments and a book.
+pub fn expected_of_spans(arguments: &[&[u8]], book: &[u8]) -> String {
+    let asked = Asked::by(arguments);
+    asked.map_or(USAGE.to_string(), |asked| spans_of_book(book, &asked, Reading::Right))
+}
+
+/// The gate's two programs against each other, then each against the second program.
+fn book_difference(case: &Case, programs: &Programs) -> io::Result<Option<Difference>> {
+    let (book, arguments) = (case.file(b"book"), case.arguments());
+    let (listed, spanned) = (programs.run_listing(book)?, programs.run_spans(book)?);
+    let expected = [listing(book, Reading::Right), expected_of_spans(&[], book)];
+    let own = disagreement(expected[0].as_bytes(), expected[1].as_bytes());
+    assert_eq!(own, None, "the second program's own listing and spans");
+    if let Some(said) = disagreement(&listed.output, &spanned.output) {
+        let (said, sort) = (format!("listing and spans: {said}"), "disagreement".to_string());
+        return Ok(Some(Difference { said, sort }));
     }
-    Ok(first_different_line(&expected, &got.output).map(|(place, expected, got)| {
-        let said =
-            format!("listing, line {}: expected `{expected}`, the gate prints `{got}`", place + 1);
-        Difference::lines(said, &expected, &got)
+    let different = printed_difference("listing", &expected[0], &listed)
+        .or_else(|| printed_difference("spans", &expected[1], &spanned));
+    if different.is_some() || arguments.is_empty() {
+        return Ok(different);
+    }
+    let (asked, was_read) = programs.run_spans_with(&arguments, book)?;
+    let named: Vec<String> = arguments.iter().map(|argument| escape(argument)).collect();
+    let name = format!("spans {named:?}");
+    let expected = expected_of_spans(&arguments, book);
+    Ok(printed_difference(&name, &expected, &asked).or_else(|| {
+        let said = format!("{name} reads the book, with arguments that it doesn't take");
+        (expected == USAGE && was_read).then(|| Difference { said, sort: "read".to_string() })
     }))
+}
+
+/// How what a program printed differs.
+fn printed_difference(name: &str, expected: &str, got: &Outcome) -> Option<Difference> {
+    if let Some(trouble) = &got.trouble {
+        return Some(Difference::trouble(format!("{name} {trouble}")));
+    }
+    first_different_line(expected.as_bytes(), &got.output).map(|(place, expected, got)| {
+        let place = place + 1;
+        let said = format!("{name}, line {place}: expected `{expected}`, the gate prints `{got}`");
+        Difference::lines(said, &expected, &got)
+    })
 }
 
 fn keeper_difference(case: &Case, programs: &Programs) -> io::Result<Option<Difference>> {

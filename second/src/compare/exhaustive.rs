@@ -1,10 +1,11 @@
 //! Every well-formed history of one model and one sheet up to 6 ticks: the formula against
-//! itself tick by tick, the group, the C library's judge, `listing` and `keeper`.
+//! itself tick by tick, the group, the C library's judge and spans, `listing`, `spans` and `keeper`.
 
 use crate::books::{book_of, event};
 use crate::case::{Case, Run, Trial};
 use crate::differ::difference;
 use crate::gate::{self, Library};
+use crate::library::same_spans;
 use crate::programs::Programs;
 use crate::progress::Progress;
 use second::answers::ValueAnswer;
@@ -13,6 +14,7 @@ use second::formula::History;
 use second::group::Group;
 use second::judge::{judge, judge_bytes, verdict, Verdict};
 use second::record::GroupRecord;
+use second::spans::{spans, spans_tick_by_tick, SPAN_NUMBERS};
 use std::io;
 
 const MOST_TICKS: u32 = 6;
@@ -45,21 +47,21 @@ fn bytes(words: &[u32]) -> Vec<u8> {
     words.iter().flat_map(|word| word.to_le_bytes()).collect()
 }
 
-/// Compares everything; the first case that differs is given back.
+/// Compares everything; the first case that differs is given back. The programs come first:
+/// a wrong one is found in a moment.
 pub fn exhaustive(programs: &Programs) -> io::Result<Option<Case>> {
     println!("exhaustive: {}", gate::notice());
-    if let Some(case) = in_process() {
-        return Ok(Some(case));
-    }
-    if programs.listing.is_some() {
-        if let Some(case) = by_listing(programs)? {
+    if programs.listing.is_some() || programs.spans.is_some() {
+        if let Some(case) = by_books(programs)? {
             return Ok(Some(case));
         }
     }
     if programs.keeper.is_some() {
-        return by_keeper(programs);
+        if let Some(case) = by_keeper(programs)? {
+            return Ok(Some(case));
+        }
     }
-    Ok(None)
+    Ok(in_process())
 }
 
 fn in_process() -> Option<Case> {
@@ -78,7 +80,10 @@ fn in_process() -> Option<Case> {
             progress.show(done);
         }
     }
-    let library = if gate::LIBRARY.is_some() { ", by the C library's judge and gate" } else { "" };
+    let library = match gate::LIBRARY {
+        Some(_) => ", by the C library's judge, spans and gate",
+        None => "",
+    };
     println!(
         "exhaustive: {done} histories judged by the formula, by the group{library} in {:.1} s",
         progress.seconds()
@@ -91,18 +96,34 @@ fn one_history(model: &[Event], sheet: &[Event], now: u32) -> Option<Case> {
     let by_formula = verdict(&History::of_every_tick(model, sheet, now));
     let by_judge = judge(&m, &s, now);
     assert_eq!(by_judge, Ok(by_formula), "the second program's own judge: {model:?} {sheet:?}");
+    let by_tick = spans_tick_by_tick(model, sheet, now);
+    assert_eq!(spans(&m, &s, now), Ok(by_tick), "its own spans: {model:?} {sheet:?}");
     let group = group_of(model, sheet, now);
     let granted = group.read(0, 0) == Ok(true);
     assert_eq!(granted, by_formula.is_granted(), "its own group: {model:?} {sheet:?}");
-    by_library(gate::LIBRARY?, &group, bytes(&m), bytes(&s))
+    by_library(gate::LIBRARY?, &group, &m, &s)
 }
 
-/// The C library's judge on the strips, and its gate on the calls that make them.
-fn by_library(library: &Library, group: &Group, model: Vec<u8>, sheet: Vec<u8>) -> Option<Case> {
-    if library.judge(&model, &sheet, group.closed) != judge_bytes(&model, &sheet, group.closed) {
-        return Some(Case::judge(model, sheet, group.closed));
+/// The C library's judge and spans on the strips, and its gate on the calls that make them.
+fn by_library(library: &Library, group: &Group, model: &[u32], sheet: &[u32]) -> Option<Case> {
+    let (model_bytes, sheet_bytes, now) = (bytes(model), bytes(sheet), group.closed);
+    if library.judge(&model_bytes, &sheet_bytes, now)
+        != judge_bytes(&model_bytes, &sheet_bytes, now)
+    {
+        return Some(Case::judge(model_bytes, sheet_bytes, now));
+    }
+    if !spans_agree(library, model, sheet, now) {
+        return Some(Case::spans(model_bytes, sheet_bytes, now, &[0, -1]));
     }
     (!gate_agrees(library, group)).then(|| gate_case(group))
+}
+
+/// With a list of just enough room, and one number less where there are spans.
+fn spans_agree(library: &Library, model: &[u32], sheet: &[u32], now: u32) -> bool {
+    let found = spans(model, sheet, now);
+    let needed = found.as_ref().map_or(0, |spans| SPAN_NUMBERS * spans.len());
+    let agrees = |room| same_spans(library, model, sheet, now, &found, room).is_ok();
+    agrees(needed) && (needed == 0 || agrees(needed - 1))
 }
 
 /// From fresh to the last close every request and close is taken; then the record and the
@@ -189,14 +210,14 @@ impl Batch {
     }
 }
 
-fn by_listing(programs: &Programs) -> io::Result<Option<Case>> {
+fn by_books(programs: &Programs) -> io::Result<Option<Case>> {
     let batches = batches();
     let total = batches.len() as u64 * u64::from(MOST_TICKS);
-    let mut progress = Progress::new("exhaustive, books through listing", total);
+    let mut progress = Progress::new("exhaustive, books through listing and spans", total);
     let mut done = 0;
     for batch in &batches {
         for ticks in 1..=MOST_TICKS {
-            let case = Case::listing(batch.book(ticks));
+            let case = Case::book(batch.book(ticks), &[]);
             if difference(&case, programs)?.is_some() {
                 return Ok(Some(case));
             }
@@ -205,7 +226,7 @@ fn by_listing(programs: &Programs) -> io::Result<Option<Case>> {
         }
     }
     println!(
-        "exhaustive: the same histories in {done} books through listing in {:.1} s",
+        "exhaustive: all histories in {done} books through listing and spans in {:.1} s",
         progress.seconds()
     );
     Ok(None)
@@ -225,7 +246,7 @@ fn by_keeper(programs: &Programs) -> io::Result<Option<Case>> {
         progress.show(place as u64 + 1);
     }
     println!(
-        "exhaustive: the same histories, {reads} reads, through keeper in {:.1} s",
+        "exhaustive: all histories, {reads} reads, through keeper in {:.1} s",
         progress.seconds()
     );
     Ok(None)

@@ -3,7 +3,7 @@
 //! a safe function below.
 
 use second::answers::{
-    BookReadAnswer, BookWriteAnswer, DeliveryAnswer, GroupAnswer, Part, ValueAnswer,
+    BookReadAnswer, BookWriteAnswer, DeliveryAnswer, GroupAnswer, Part, SpansAnswer, ValueAnswer,
 };
 use second::record::GroupRecord;
 
@@ -49,6 +49,8 @@ calls! {
         now: u32) -> u64;
     fn ferrulebee_evidence(model: *const u32, model_words: usize, sheet: *const u32,
         sheet_words: usize, now: u32) -> Part;
+    fn ferrulebee_spans(model: *const u32, model_words: usize, sheet: *const u32,
+        sheet_words: usize, now: u32, list: *mut u32, list_words: usize) -> SpansAnswer;
 }
 
 /// Each function lends its slices for the call, with their true lengths.
@@ -123,6 +125,12 @@ impl Library {
         let (model, model_words) = (model.as_ptr(), model.len());
         let (sheet, sheet_words) = (sheet.as_ptr(), sheet.len());
         unsafe { (self.ferrulebee_evidence)(model, model_words, sheet, sheet_words, now) }
+    }
+
+    pub fn spans(&self, model: &[u32], sheet: &[u32], now: u32, list: &mut [u32]) -> SpansAnswer {
+        let (m, s, words) = (model.as_ptr(), sheet.as_ptr(), list.len());
+        let list = list.as_mut_ptr();
+        unsafe { (self.ferrulebee_spans)(m, model.len(), s, sheet.len(), now, list, words) }
     }
 }
 

@@ -17,13 +17,16 @@ use crate::gate::{notice, Library, LIBRARY};
 use lending::{same_lent, Lent};
 use met::{sort, Met};
 use numbers::{same, Code, Judged};
-use second::answers::{BookReadAnswer, BookWriteAnswer, DeliveryAnswer, Part, ValueAnswer};
+use second::answers::{
+    BookReadAnswer, BookWriteAnswer, DeliveryAnswer, Part, SpansAnswer, ValueAnswer,
+};
 use second::book;
 use second::group::{mask, Group};
 use second::judge::{evidence, judge, judge_bytes, words, Moment, Verdict};
 use second::limits::{BOOK_HEADER, BOOK_RECORDS, DELIVERY_HEADER, WORD_BYTES};
 use second::record::GroupRecord;
 use second::refusal::Refusal;
+use second::spans::{listed, spans, Span, SPAN_NUMBERS};
 use station::{Held, Station};
 use std::io;
 
@@ -75,6 +78,7 @@ impl<'a> Calls<'a> {
             ("deliver", &[at, model, file, more]) => self.deliver(at, model, file, more),
             ("judge", &[file, now]) => self.judge(file, now),
             ("evidence", &[file, now]) => self.evidence(file, now),
+            ("spans", &[file, now, more]) => self.spans(file, now, more),
             _ => return None,
         })
     }
@@ -263,6 +267,43 @@ impl<'a> Calls<'a> {
         };
         Ok(sort("evidence", 0, kind))
     }
+
+    fn spans(&mut self, file: u32, now: u32, more: u32) -> Compared {
+        let (model, sheet) = (words(self.file("model", file)), words(self.file("sheet", file)));
+        let found = spans(&model, &sheet, now);
+        let needed = found.as_ref().map_or(0, |spans| SPAN_NUMBERS * spans.len());
+        let code = same_spans(self.library, &model, &sheet, now, &found, room(needed, more))?;
+        let kind = match needed / SPAN_NUMBERS {
+            0 => "none",
+            1 => "one",
+            _ => "many",
+        };
+        Ok(sort("spans", code, kind))
+    }
+}
+
+/// The library's spans of two strips, whose spans are known, for a list with so much room; the
+/// code of the answer.
+pub fn same_spans(
+    library: &Library,
+    model: &[u32],
+    sheet: &[u32],
+    now: u32,
+    found: &Result<Vec<Span>, Refusal>,
+    room: usize,
+) -> Result<u32, Difference> {
+    let answer = found.as_ref().map_err(|refusal| *refusal).and_then(|spans| listed(spans, room));
+    let numbers = answer.as_deref().unwrap_or(&[]);
+    let count = answer.as_ref().map(|numbers| numbers.len() / SPAN_NUMBERS);
+    let expected = SpansAnswer::from(count.map_err(|refusal| *refusal));
+    let (lent_model, lent_sheet) = (Lent::new(model), Lent::new(sheet));
+    let mut list = Lent::room(room);
+    let got = library.spans(lent_model.slice(), lent_sheet.slice(), now, list.slice_mut());
+    same(&expected, &got)?;
+    same_lent("the list", &Lent::room(room).with_front(numbers), &list)?;
+    lent_model.stays("the model's strip", model)?;
+    lent_sheet.stays("the sheet's strip", sheet)?;
+    Ok(expected.code)
 }
 
 fn code<T>(answer: &Result<T, Refusal>) -> u32 {

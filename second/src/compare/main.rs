@@ -1,5 +1,7 @@
 //! `compare`: feeds the gate and the second program the same input and wants equal answers.
 
+mod agreement;
+mod arguments;
 mod books;
 mod case;
 mod chance;
@@ -16,6 +18,7 @@ mod progress;
 mod report;
 mod scripts;
 mod shrink;
+mod spanning;
 mod stores;
 mod tally;
 
@@ -40,6 +43,8 @@ compare random  [SEED [COUNT]]    random and damaged books and stores, keeper sc
 compare demand3 [SEED [COUNT]]    pairs of scripts that look the same to one model
 compare library [SEED [COUNT]]    random runs of calls on the whole C library
 compare judge   [SEED [COUNT]]    random strips through the C library's judge
+compare spans   [SEED [COUNT]]    random strips through the C library's spans, with lists of
+                                  every short length
 compare lockstep [SEED [COUNT]]   keeper scripts typed line by line, each answer awaited
 compare long    [SEED]            one keeper script that closes all 1,000,000 ticks
 compare tally   [SEED [COUNT]]    which answers the random cases reach; none may be missing
@@ -47,23 +52,23 @@ compare replay FILE               a case that was written down, again
 compare --help                    these lines
 
 --listing PATH   the gate's listing       --keeper PATH   the gate's keeper
---out FOLDER     where failing cases go (failures)
+--spans PATH     the gate's spans         --out FOLDER    where failing cases go (failures)
 --from CASE      the number of the first case (0)
 
-`library` fails, too, when 10000 cases or more never met some sort of answer.
+`library` and `spans` fail, too, when 10000 cases or more never met some sort of answer.
 Without a SEED, or with SEED 0, a fresh one is taken; it is always printed. The programs
-beside compare are run when neither path is given. Case 3 of seed 9 alone is run again by
+beside compare are run when no path of a program is given. Case 3 of seed 9 alone is run again by
 `compare random 9 1 --from 3`. The exit status is 0 when all answers
 are equal, 1 when a case differs, 2 when something can't be run.
 ";
 
-/// So many cases of `library` have to meet every sort of answer.
+/// So many cases of `library`, or of `spans`, have to meet every sort of answer.
 const ENOUGH_TO_MEET_ALL: u64 = 10_000;
 
 struct Options {
     words: Vec<String>,
-    listing: Option<PathBuf>,
-    keeper: Option<PathBuf>,
+    /// Of listing, keeper and spans.
+    programs: [Option<PathBuf>; 3],
     out: PathBuf,
     from: u64,
 }
@@ -82,8 +87,7 @@ fn main() -> ExitCode {
 fn options() -> Result<Options, String> {
     let mut options = Options {
         words: Vec::new(),
-        listing: None,
-        keeper: None,
+        programs: [None, None, None],
         out: PathBuf::from("failures"),
         from: 0,
     };
@@ -91,16 +95,16 @@ fn options() -> Result<Options, String> {
     while let Some(argument) = arguments.next() {
         let mut value = || arguments.next().ok_or(format!("{argument} needs a value"));
         match argument.as_str() {
-            "--listing" => options.listing = Some(program(&value()?)?),
-            "--keeper" => options.keeper = Some(program(&value()?)?),
+            "--listing" => options.programs[0] = Some(program(&value()?)?),
+            "--keeper" => options.programs[1] = Some(program(&value()?)?),
+            "--spans" => options.programs[2] = Some(program(&value()?)?),
             "--out" => options.out = PathBuf::from(value()?),
             "--from" => options.from = number(&value()?)?,
             _ => options.words.push(argument),
         }
     }
-    if options.listing.is_none() && options.keeper.is_none() {
-        options.listing = beside("listing");
-        options.keeper = beside("keeper");
+    if options.programs.iter().all(Option::is_none) {
+        options.programs = ["listing", "keeper", "spans"].map(beside);
     }
     Ok(options)
 }
@@ -131,8 +135,7 @@ fn run() -> Result<bool, String> {
         print!("{HELP}");
         return Ok(true);
     }
-    let programs = Programs::new(options.listing.clone(), options.keeper.clone());
-    let programs = programs.map_err(|error| error.to_string())?;
+    let programs = Programs::new(options.programs.clone()).map_err(|error| error.to_string())?;
     let session = Session { options: &options, programs: &programs };
     session.command(command, rest)
 }
@@ -156,6 +159,7 @@ impl Session<'_> {
             "demand3" => self.cases(command, seed, count, sound_pair),
             "library" => self.library(seed, count),
             "judge" => self.judge(seed, count),
+            "spans" => self.spans(seed, count),
             "lockstep" => self.lockstep(seed, count),
             "tally" => Ok(self.tally(seed, count)),
             "long" => self.cases(command, seed, 1, long::long),
@@ -217,13 +221,33 @@ impl Session<'_> {
         if gate::LIBRARY.is_none() {
             return Ok(true);
         }
+        self.library_cases("library", seed, count, author::calls, |_| true)
+    }
+
+    fn spans(&self, seed: u64, count: u64) -> Result<bool, String> {
+        println!("spans: {}", gate::notice());
+        if gate::LIBRARY.is_none() {
+            return Ok(true);
+        }
+        self.library_cases("spans", seed, count, spanning::spanned, |call| call == "spans")
+    }
+
+    /// Cases of calls on the library, which have to meet every sort of answer of some calls.
+    fn library_cases(
+        &self,
+        name: &str,
+        seed: u64,
+        count: u64,
+        make: fn(&mut Chance) -> Case,
+        calls: fn(&str) -> bool,
+    ) -> Result<bool, String> {
         let mut met = Met::default();
         let differs = |case: &Case| library::difference(case, &mut met);
-        if !self.cases_by("library", seed, count, author::calls, differs)? {
+        if !self.cases_by(name, seed, count, make, differs)? {
             return Ok(false);
         }
-        println!("library: {} calls compared, and these answers met:", met.calls());
-        Ok(met.print() || count < ENOUGH_TO_MEET_ALL)
+        println!("{name}: {} calls compared, and these answers met:", met.calls());
+        Ok(met.print(calls) || count < ENOUGH_TO_MEET_ALL)
     }
 
     fn lockstep(&self, seed: u64, count: u64) -> Result<bool, String> {
@@ -273,7 +297,11 @@ impl Session<'_> {
 fn random_case(chance: &mut Chance) -> Case {
     match chance.within(0..=99) {
         0 => scripts::script_beyond_a_book(chance),
-        1..=34 => Case::listing(books::any_book(chance)),
+        1..=34 => {
+            let book = books::any_book(chance);
+            let arguments = arguments::arguments(chance, &book);
+            Case::book(book, &arguments)
+        }
         _ => scripts::script(chance),
     }
 }

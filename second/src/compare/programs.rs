@@ -1,8 +1,9 @@
-//! Runs the gate's `listing` and `keeper` through pipes, in a folder of their own.
+//! Runs the gate's `listing`, `keeper` and `spans` in a folder of their own.
 
 use crate::case::Folder;
-use std::fs;
-use std::io::{self, Read, Write};
+use std::ffi::OsStr;
+use std::fs::{self, File};
+use std::io::{self, Read, Seek, Write};
 use std::os::unix::ffi::OsStrExt;
 use std::os::unix::process::ExitStatusExt;
 use std::path::{Path, PathBuf};
@@ -27,21 +28,41 @@ pub struct Outcome {
 pub struct Programs {
     pub listing: Option<PathBuf>,
     pub keeper: Option<PathBuf>,
+    pub spans: Option<PathBuf>,
     folder: PathBuf,
     watch: Watch,
 }
 
 impl Programs {
-    pub fn new(listing: Option<PathBuf>, keeper: Option<PathBuf>) -> io::Result<Programs> {
+    pub fn new([listing, keeper, spans]: [Option<PathBuf>; 3]) -> io::Result<Programs> {
         let folder = std::env::temp_dir().join(format!("compare-{}", std::process::id()));
         fs::create_dir_all(&folder)?;
-        Ok(Programs { listing, keeper, folder, watch: Watch::start() })
+        Ok(Programs { listing, keeper, spans, folder, watch: Watch::start() })
     }
 
     pub fn run_listing(&self, book: &[u8]) -> io::Result<Outcome> {
         let program = self.listing.as_ref().ok_or_else(|| missing("--listing"))?;
-        let (output, trouble) = self.run(program, &self.folder, book)?;
-        Ok(Outcome { output, files: Folder::new(), trouble })
+        self.run(Command::new(program).current_dir(&self.folder), book)
+    }
+
+    /// Without arguments.
+    pub fn run_spans(&self, book: &[u8]) -> io::Result<Outcome> {
+        let program = self.spans.as_ref().ok_or_else(|| missing("--spans"))?;
+        self.run(Command::new(program).current_dir(&self.folder), book)
+    }
+
+    /// With arguments, and with the book in a file, as people have it: so that it can be seen
+    /// whether any of it was read.
+    pub fn run_spans_with(&self, arguments: &[&[u8]], book: &[u8]) -> io::Result<(Outcome, bool)> {
+        let program = self.spans.as_ref().ok_or_else(|| missing("--spans"))?;
+        let path = self.folder.join("book");
+        fs::write(&path, book)?;
+        let mut file = File::open(&path)?;
+        let mut command = Command::new(program);
+        command.current_dir(&self.folder).stdin(file.try_clone()?);
+        command.args(arguments.iter().map(|argument| OsStr::from_bytes(argument)));
+        let outcome = self.run_on(&mut command, &[])?;
+        Ok((outcome, file.stream_position()? > 0))
     }
 
     pub fn run_keeper(&self, input: &[u8], files: &Folder) -> io::Result<Outcome> {
@@ -51,38 +72,35 @@ impl Programs {
         for (name, bytes) in files {
             fs::write(folder.join(as_path(name)), bytes)?;
         }
-        let (output, trouble) = self.run(program, &folder, input)?;
+        let outcome = self.run(Command::new(program).current_dir(&folder), input)?;
         let files = read_folder(&folder)?;
         fs::remove_dir_all(&folder)?;
-        Ok(Outcome { output, files, trouble })
+        Ok(Outcome { files, ..outcome })
     }
 
-    fn run(
-        &self,
-        program: &Path,
-        folder: &Path,
-        input: &[u8],
-    ) -> io::Result<(Vec<u8>, Option<String>)> {
-        let mut child = Command::new(program)
-            .current_dir(folder)
-            .stdin(Stdio::piped())
-            .stdout(Stdio::piped())
-            .stderr(Stdio::null())
-            .spawn()
-            .map_err(|error| {
-                io::Error::new(error.kind(), format!("{}: {error}", program.display()))
-            })?;
-        let mut to_child = child.stdin.take().expect("standard input is a pipe");
+    /// With the input through a pipe.
+    fn run(&self, command: &mut Command, input: &[u8]) -> io::Result<Outcome> {
+        self.run_on(command.stdin(Stdio::piped()), input)
+    }
+
+    /// With the input through a pipe, where standard input is one.
+    fn run_on(&self, command: &mut Command, input: &[u8]) -> io::Result<Outcome> {
+        let started = command.stdout(Stdio::piped()).stderr(Stdio::null()).spawn();
+        let mut child = started.map_err(|error| {
+            let program = command.get_program().to_string_lossy();
+            io::Error::new(error.kind(), format!("{program}: {error}"))
+        })?;
+        let to_child = child.stdin.take();
         let mut from_child = child.stdout.take().expect("standard output is a pipe");
         self.watch.put(child);
         let mut output = Vec::new();
         thread::scope(|scope| {
             // A program may end before it has read everything; that isn't a difference.
-            scope.spawn(move || to_child.write_all(input).ok());
+            scope.spawn(move || to_child.map(|mut to_child| to_child.write_all(input).ok()));
             from_child.read_to_end(&mut output)
         })?;
         let (status, hung) = self.watch.take()?;
-        Ok((output, trouble(status, hung)))
+        Ok(Outcome { output, files: Folder::new(), trouble: trouble(status, hung) })
     }
 }
 
@@ -98,7 +116,7 @@ fn missing(option: &str) -> io::Error {
 }
 
 fn as_path(name: &[u8]) -> &Path {
-    Path::new(std::ffi::OsStr::from_bytes(name))
+    Path::new(OsStr::from_bytes(name))
 }
 
 fn read_folder(folder: &Path) -> io::Result<Folder> {

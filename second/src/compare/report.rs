@@ -42,7 +42,8 @@ pub fn report(case: &Case, name: &str, folder: &Path, programs: &Programs) -> io
 fn text(case: &Case, name: &str, said: &str) -> String {
     let programs = match case.trial {
         Trial::Library => ", linked with the library",
-        _ => " --listing PATH --keeper PATH",
+        Trial::Book => " --listing PATH --spans PATH",
+        Trial::Keeper | Trial::Pair => " --keeper PATH",
     };
     format!(
         "# {name}: {said}\n# Run it again with: compare replay FILE{programs}\n{}",

@@ -3,6 +3,7 @@
 use crate::books::set_word;
 use crate::case::Case;
 use crate::stores::{entries_end, entry_of, set_entry};
+use second::event::Event;
 use second::judge::words;
 use second::limits::{BOOK_HEADER, STORE_ENTRY, STORE_HEADER, WORD_BYTES};
 use std::collections::BTreeSet;
@@ -30,6 +31,9 @@ pub fn shrink(case: &Case, fails: &dyn Fn(&Case) -> bool) -> Case {
                 shrinker.empty_entries(&mut small, &name);
                 shrinker.take_off_the_end(&mut small, &name, sheets_in, drop_last_entries);
             } else {
+                if is_book(&name) {
+                    shrinker.drop_carriers(&mut small, &name);
+                }
                 shrinker.drop_records(&mut small, &name);
             }
             shrinker.take_off_the_end(&mut small, &name, <[u8]>::len, cut_end);
@@ -101,7 +105,7 @@ impl Shrinker<'_> {
 
     /// Takes records out of a book, or words out of a strip, with the header put right.
     fn drop_records(&mut self, case: &mut Case, name: &[u8]) {
-        let header = if name.starts_with(b"book") { BOOK_HEADER } else { 0 };
+        let header = if is_book(name) { BOOK_HEADER } else { 0 };
         let records = |case: &Case| case.file(name).len().saturating_sub(header) / WORD_BYTES;
         self.by_parts(case, records, |case, start, end| {
             for bytes in files_named(case, name) {
@@ -110,10 +114,25 @@ impl Shrinker<'_> {
                 }
                 bytes.drain(header + WORD_BYTES * start..header + WORD_BYTES * end);
                 if header > 0 {
-                    let (fields, gone) = (words(&bytes[..header]), (end - start) as u32);
-                    set_word(bytes, 0, fields[0].wrapping_sub(WORD_BYTES as u32 * gone));
-                    set_word(bytes, 2, fields[2].wrapping_sub(gone));
+                    count_off(bytes, (end - start) as u32);
                 }
+            }
+        });
+    }
+
+    /// Takes all records of some carriers out of a book, which stays as well-formed as it was.
+    fn drop_carriers(&mut self, case: &mut Case, name: &[u8]) {
+        let carriers = |case: &Case| carriers_in(case.file(name)).len();
+        self.by_parts(case, carriers, |case, start, end| {
+            for bytes in files_named(case, name) {
+                let gone: BTreeSet<u32> =
+                    carriers_in(bytes).into_iter().take(end).skip(start).collect();
+                let records = words(bytes.get(BOOK_HEADER..).unwrap_or(&[]));
+                let kept: Vec<&u32> =
+                    records.iter().filter(|&&word| !gone.contains(&carrier_of(word))).collect();
+                bytes.truncate(BOOK_HEADER);
+                bytes.extend(kept.iter().flat_map(|word| word.to_le_bytes()));
+                count_off(bytes, (records.len() - kept.len()) as u32);
             }
         });
     }
@@ -172,6 +191,29 @@ fn file_names(case: &Case) -> BTreeSet<Vec<u8>> {
 /// The bytes of the file in both runs of a pair, so that they stay alike.
 fn files_named<'a>(case: &'a mut Case, name: &'a [u8]) -> impl Iterator<Item = &'a mut Vec<u8>> {
     case.files.iter_mut().filter(move |file| file.name == name).map(|file| &mut file.bytes)
+}
+
+fn is_book(name: &[u8]) -> bool {
+    name.starts_with(b"book")
+}
+
+/// A number that a carrier's words have in common, and no other's.
+fn carrier_of(word: u32) -> u32 {
+    let event = Event::from_word(word);
+    2 * event.number + event.kind.side() as u32
+}
+
+fn carriers_in(book: &[u8]) -> BTreeSet<u32> {
+    words(book.get(BOOK_HEADER..).unwrap_or(&[])).into_iter().map(carrier_of).collect()
+}
+
+/// Takes so many records off a book's total and count.
+fn count_off(book: &mut [u8], gone: u32) {
+    let fields = words(book);
+    if let (Some(total), Some(count)) = (fields.first(), fields.get(2)) {
+        set_word(book, 0, total.wrapping_sub(WORD_BYTES as u32 * gone));
+        set_word(book, 2, count.wrapping_sub(gone));
+    }
 }
 
 fn is_store(name: &[u8]) -> bool {

@@ -1,20 +1,20 @@
 //! What the random cases reach: how often each sort of answer is expected in them.
 
 use crate::case::{Case, Run, Trial};
-use crate::differ::{expected_of_keeper, sort_of};
+use crate::differ::{expected_of_keeper, expected_of_spans, sort_of};
 use second::listing::listing;
 use second::wrong::Reading;
 use std::collections::BTreeMap;
 
-/// Every sort of answer that the two programs can give, except help's lines.
+/// Every sort of answer that the programs can give, except help's lines.
 #[rustfmt::skip]
-const ALL: [&str; 39] = [
+const ALL: [&str; 42] = [
     "fresh", "ok", "closed", "granted", "denied", "models", "group", "saved", "store", "delivered",
     "delivered nothing", "grant", "can't open", "what? line", "what? unknown", "what? missing",
     "what? extra", "what? not", "what? number", "what? buffer", "what? file", "refused 1",
     "refused 2", "refused 3", "refused 4", "refused 5", "refused 6", "refused 9", "refused 20",
     "refused 21", "refused 22", "refused 23", "refused 24", "refused 25", "refused 26",
-    "refused 31", "refused 32", "refused 33", "refused 34",
+    "refused 31", "refused 32", "refused 33", "refused 34", "span", "spans", "usage:",
 ];
 
 #[derive(Default)]
@@ -25,8 +25,11 @@ pub struct Tally {
 impl Tally {
     pub fn add(&mut self, case: &Case) {
         match case.trial {
-            Trial::Listing => {
-                self.add_lines(listing(case.file(b"book"), Reading::Right).as_bytes())
+            Trial::Book => {
+                let book = case.file(b"book");
+                self.add_lines(listing(book, Reading::Right).as_bytes());
+                self.add_lines(expected_of_spans(&[], book).as_bytes());
+                self.add_lines(expected_of_spans(&case.arguments(), book).as_bytes());
             }
             _ => {
                 let expected = expected_of_keeper(case, Run::Left);

@@ -6,7 +6,8 @@ use super::station::{Held, Station};
 use crate::books::{any_book, book_near_the_last_tick, event, flip_a_bit, good_book};
 use crate::case::{Case, Run, Trial};
 use crate::chance::Chance;
-use crate::judging::strips;
+use crate::judging;
+use crate::spanning;
 use crate::stores::{any_store, store_with_entries};
 use second::book;
 use second::event::{Event, Side};
@@ -333,11 +334,16 @@ impl Author<'_> {
 
     fn judges(&mut self) {
         for _ in 0..self.chance.within(1..=6) {
-            let (model, sheet, now) = strips(self.chance);
+            let (model, sheet, now) = match self.chance.percent(50) {
+                true => judging::strips(self.chance),
+                false => spanning::strips(self.chance),
+            };
             let number = self.lay_out("model", model);
             self.case.add_file(Run::Both, format!("sheet{number}").as_bytes(), sheet);
             self.say(format!("judge {number} {now}"));
             self.say(format!("evidence {number} {now}"));
+            let more = self.more();
+            self.say(format!("spans {number} {now} {more:+}"));
         }
     }
 }

@@ -4,7 +4,7 @@ use std::collections::BTreeMap;
 
 /// Every sort of answer, by call; `lent` is a call on a group of any contents.
 #[rustfmt::skip]
-const ALL: [(&str, &[&str]); 18] = [
+const ALL: [(&str, &[&str]); 19] = [
     ("fresh", &["group", "refused 9"]),
     ("request", &["taken", "refused 1", "refused 2", "refused 3", "refused 4", "refused 5",
         "refused 6"]),
@@ -29,6 +29,8 @@ const ALL: [(&str, &[&str]); 18] = [
         "not rising"]),
     ("judge", &["101", "102", "103", "104", "105", "10", "11", "12", "13", "14"]),
     ("evidence", &["of the model", "of the sheet", "denied", "refused"]),
+    ("spans", &["none", "one", "many", "refused 10", "refused 11", "refused 12", "refused 13",
+        "refused 14", "refused 40"]),
     ("lent", &["group"]),
 ];
 
@@ -54,10 +56,10 @@ impl Met {
         self.counts.values().sum()
     }
 
-    /// Prints the counts call by call; true when every sort was met.
-    pub fn print(&self) -> bool {
+    /// Prints the counts of these calls; true when every sort was met.
+    pub fn print(&self, calls: impl Fn(&str) -> bool) -> bool {
         let mut complete = true;
-        for (call, sorts) in ALL {
+        for (call, sorts) in ALL.into_iter().filter(|(call, _)| calls(call)) {
             let count = |sort: &&str| self.counts.get(&format!("{call} {sort}")).copied();
             let shown = sorts.iter().map(|sort| format!("{sort}: {}", count(sort).unwrap_or(0)));
             println!("  {call}: {}", shown.collect::<Vec<_>>().join(", "));

@@ -2,7 +2,7 @@
 
 use crate::differ::Difference;
 use second::answers::{
-    BookReadAnswer, BookWriteAnswer, DeliveryAnswer, GroupAnswer, Part, ValueAnswer,
+    BookReadAnswer, BookWriteAnswer, DeliveryAnswer, GroupAnswer, Part, SpansAnswer, ValueAnswer,
 };
 use second::record::GroupRecord;
 
@@ -125,6 +125,13 @@ impl Numbers for DeliveryAnswer {
     fn numbers(&self) -> Vec<(String, u64)> {
         let (code, place) = (u64::from(self.code), u64::from(self.place));
         named(&[("code", code), ("place", place), ("length", u64::from(self.length))])
+    }
+}
+
+impl Numbers for SpansAnswer {
+    fn numbers(&self) -> Vec<(String, u64)> {
+        let (code, place) = (u64::from(self.code), u64::from(self.place));
+        named(&[("code", code), ("place", place), ("count", u64::from(self.count))])
     }
 }
 
