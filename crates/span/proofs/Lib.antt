@@ -6,3 +6,4 @@ pub mod Fit
 pub mod Going
 pub mod Judge
 pub mod Left
+pub mod Wrong

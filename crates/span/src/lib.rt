@@ -1,6 +1,8 @@
 // When could a model read a sheet? From their strips and now, the spans of ticks in which the grant held, as pairs (first tick, last tick).
 ghost use mathlib.Core.Path.{_≡_};
+ghost use mathlib.Core.Bool.{cond};
 ghost use Prim.Native.Nat.{_+_, _≤_};
+ghost use lib.Dec.{eqb};
 ghost use lib.ListN.{length};
 ghost use Rattle.judge.specs.Judge.{Accepted};
 ghost use Rattle.span.specs.Answer.{spansIn, spansAnswer, listAfter};
@@ -46,19 +48,26 @@ fn end(list: &mut [u32], was: Spanning, last: u32) -> Spanning
     }
 }
 
+// Where the grant holds at a tick, the open span goes on, or one begins.
+fn opened(since: u32, tick: u32) -> u32
+    ensures { λ r. ⌜ r ≡ cond (eqb since 0) tick since ⌝ }
+{
+    if since == 0 {
+        return tick;
+    }
+    since
+}
+
 // A tick with events: the grant holds after it, or not.
 fn turn(list: &mut [u32], was: Spanning, tick: u32, holds: bool) -> Spanning
     requires { ⌜ (1 ≤ tick) × (was .count ≤ 65536) ⌝ }
     ensures { λ r. ⌜ (r ≡ turned was tick holds) × (list .exit .now ≡ turnedList (list .entry .now) was tick holds) ⌝ }
 {
     if holds {
-        if was.first == 0 {
-            return Spanning {
-                first: tick,
-                count: was.count,
-            };
-        }
-        return was;
+        return Spanning {
+            first: opened(was.first, tick),
+            count: was.count,
+        };
     }
     end(list, was, tick - 1)
 }
