@@ -1,6 +1,5 @@
 -- One pass over two strips is the scan over all ticks, since ticks without events move nothing. Assumes nothing.
-use mathlib.Core.Path.{_≡_, refl, sym, ap, ap₂, _∙_, subst, subst₂}
-use mathlib.Core.Bool.{true, false}
+use mathlib.Core.Path.{_≡_, refl, sym, ap, ap₂, _∙_}
 use mathlib.Core.Logic.{⊎-elim}
 use mathlib.Core.List.{List}
 use Prim.Native.Nat.{ℕ, zero, suc, _+_, _≤_, _<_}
@@ -17,8 +16,7 @@ use Rattle.strip.specs.History.{historyOf}
 use Rattle.strip.proofs.Places.{tickAt, Rising, UpTo, After, after-start, quiet-till, history-here, after-hit, after-miss}
 use Rattle.judge.specs.declared.scan.Seen.{Seen}
 use Rattle.judge.specs.declared.scan.Head.{Head}
-use Rattle.judge.specs.declared.scan.Pass.{Pass}
-use Rattle.judge.specs.Scan.{stepOf, scanTo, never, headOf, begun, modelTaken, sheetTaken, bothTaken, advanced}
+use Rattle.judge.specs.Scan.{start, stepOf, scanTo, never, headOf}
 
 -- ---- the scan over ticks
 module _ (model sheet : History) where
@@ -101,35 +99,41 @@ module _ (s : List ℕ) (r : Rising s) (last i : ℕ) (a : After last s i) (fits
       }
 
 -- ---- both strips
--- the pass has taken the events up to its tick, and knows the next of each strip
-pub record Passed (m s : List ℕ) (p : Pass) : Type 0 where
+-- where a pass stands: the places of the next events, the last tick taken, and what is known after it
+pub record Place : Type 0 where
+  pub i : ℕ
+  pub j : ℕ
+  pub tick : ℕ
+  pub seen : Seen
+
+abbrev pub place : ℕ → ℕ → ℕ → Seen → Place
+place i j t seen = record { i = i; j = j; tick = t; seen = seen }
+
+-- the pass has taken the events up to its tick
+pub record Passed (m s : List ℕ) (p : Place) : Type 0 where
   pub upto : (n : ℕ) → UpTo n m → UpTo n s → p .tick ≤ n
   pub model : After (p .tick) m (p .i)
   pub sheet : After (p .tick) s (p .j)
   pub so-far : p .seen ≡ scanTo (historyOf m) (historyOf s) (p .tick)
-  pub next-m : p .model ≡ headOf m (p .i)
-  pub next-s : p .sheet ≡ headOf s (p .j)
 
 -- a turn of the pass: from p to q, a later tick with an event, and none in between
-pub record Turned (m s : List ℕ) (p q : Pass) : Type 0 where
+pub record Turned (m s : List ℕ) (p q : Place) : Type 0 where
   pub passed : Passed m s q
   pub later : p .tick < q .tick
   pub between : Gap (historyOf m) (historyOf s) (p .tick) (q .tick)
   pub more : p .i + p .j < q .i + q .j
 
 module _ (m s : List ℕ) (rm : Rising m) (rs : Rising s) where
-  pub pass-start : Passed m s (begun m s)
+  pub pass-start : Passed m s (place 0 0 0 start)
   unfolding scanTo
   pass-start = record {
     upto = λ n a b. omega arith;
     model = after-start m rm;
     sheet = after-start s rs;
     so-far = refl;
-    next-m = refl;
-    next-s = refl;
   }
 
-  module _ (p : Pass) (x : Passed m s p) where
+  module _ (p : Place) (x : Passed m s p) where
     -- no event left: the pass stands at every later tick, and each is quiet
     module _ (h : length m + length s ≤ p .i + p .j) where
       pub quiet-end : (u : ℕ) → p .tick < u → (historyOf m u ≡ quiet) × (historyOf s u ≡ quiet)
@@ -142,10 +146,9 @@ module _ (m s : List ℕ) (rm : Rising m) (rs : Rising s) where
       pass-end n um us = x .so-far ∙ sym (over-gap (historyOf m) (historyOf s) (p .tick) n (x .upto n um us) (λ u a b. quiet-end u a))
 
     -- the events of tick t are taken
-    taken : (t k l i′ j′ : ℕ) (a b : Head) → p .tick < t → ((n : ℕ) → UpTo n m → UpTo n s → t ≤ n) → Turn m (p .tick) t k i′ → Turn s (p .tick) t l j′
-        → a ≡ headOf m i′ → b ≡ headOf s j′ → p .i + p .j < i′ + j′
-        → Turned m s p (record { i = i′; j = j′; model = a; sheet = b; tick = t; seen = stepOf (p .seen) t k l })
-    taken t k l i′ j′ a b later upto tm ts ea eb more = record {
+    taken : (t k l i′ j′ : ℕ) → p .tick < t → ((n : ℕ) → UpTo n m → UpTo n s → t ≤ n) → Turn m (p .tick) t k i′ → Turn s (p .tick) t l j′
+        → p .i + p .j < i′ + j′ → Turned m s p (place i′ j′ t (stepOf (p .seen) t k l))
+    taken t k l i′ j′ later upto tm ts more = record {
       passed = record {
         upto = upto;
         model = tm .after;
@@ -154,8 +157,6 @@ module _ (m s : List ℕ) (rm : Rising m) (rs : Rising s) where
             ap (λ (y : Seen). stepOf y t k l) (x .so-far)
             ∙ ap₂ (stepOf (scanTo (historyOf m) (historyOf s) (p .tick)) t) (sym (tm .kind)) (sym (ts .kind))
             ∙ sym (jump (historyOf m) (historyOf s) (p .tick) t later (λ u y z. (tm .between u y z, ts .between u y z)));
-        next-m = ea;
-        next-s = eb;
       };
       later = later;
       between = λ u y z. (tm .between u y z, ts .between u y z);
@@ -163,76 +164,61 @@ module _ (m s : List ℕ) (rm : Rising m) (rs : Rising s) where
     }
 
     module _ (fm : tickAt m (p .i) < never) (fs : tickAt s (p .j) < never) where
+      abbrev a : Head
+      a = headOf m (p .i)
+
+      abbrev b : Head
+      b = headOf s (p .j)
+
       -- the model's next event comes first, or the sheet's, or both come in one tick
-      pub model-first : p .model .tick < p .sheet .tick → Turned m s p (modelTaken m p (p .model))
+      pub model-first : a .tick < b .tick → Turned m s p (place (p .i + 1) (p .j) (a .tick) (stepOf (p .seen) (a .tick) (a .kind) quiet))
       model-first h =
-          let l : headOf m (p .i) .tick < headOf s (p .j) .tick = rw (x .next-m, x .next-s) at h in
-          let low : headOf m (p .i) .tick < never = omega (arith, head-most s rs (p .tick) (p .j) (x .sheet) fs) in
+          let low : a .tick < never = omega (arith, head-most s rs (p .tick) (p .j) (x .sheet) fs) in
           let later = head-later m rm (p .tick) (p .i) (x .model) fm low in
-          subst (λ (a : Head). Turned m s p (modelTaken m p a)) (sym (x .next-m))
-          (taken _ _ _ _ _ _ _ later (λ n um us. head-upto m rm (p .tick) (p .i) (x .model) fm low n um)
-          (hit m rm (p .tick) (p .i) (x .model) fm low) (miss s rs (p .tick) (p .j) (x .sheet) fs _ later l) refl (x .next-s) (omega arith))
+          taken _ _ _ _ _ later (λ n um us. head-upto m rm (p .tick) (p .i) (x .model) fm low n um)
+          (hit m rm (p .tick) (p .i) (x .model) fm low) (miss s rs (p .tick) (p .j) (x .sheet) fs _ later h) (omega arith)
 
-      pub sheet-first : p .sheet .tick < p .model .tick → Turned m s p (sheetTaken s p (p .sheet))
+      pub sheet-first : b .tick < a .tick → Turned m s p (place (p .i) (p .j + 1) (b .tick) (stepOf (p .seen) (b .tick) quiet (b .kind)))
       sheet-first h =
-          let l : headOf s (p .j) .tick < headOf m (p .i) .tick = rw (x .next-m, x .next-s) at h in
-          let low : headOf s (p .j) .tick < never = omega (arith, head-most m rm (p .tick) (p .i) (x .model) fm) in
+          let low : b .tick < never = omega (arith, head-most m rm (p .tick) (p .i) (x .model) fm) in
           let later = head-later s rs (p .tick) (p .j) (x .sheet) fs low in
-          subst (λ (b : Head). Turned m s p (sheetTaken s p b)) (sym (x .next-s))
-          (taken _ _ _ _ _ _ _ later (λ n um us. head-upto s rs (p .tick) (p .j) (x .sheet) fs low n us)
-          (miss m rm (p .tick) (p .i) (x .model) fm _ later l) (hit s rs (p .tick) (p .j) (x .sheet) fs low) (x .next-m) refl (omega arith))
+          taken _ _ _ _ _ later (λ n um us. head-upto s rs (p .tick) (p .j) (x .sheet) fs low n us)
+          (miss m rm (p .tick) (p .i) (x .model) fm _ later h) (hit s rs (p .tick) (p .j) (x .sheet) fs low) (omega arith)
 
-      pub both-first : p .sheet .tick ≤ p .model .tick → p .model .tick ≤ p .sheet .tick → p .i + p .j < length m + length s
-          → Turned m s p (bothTaken m s p (p .model) (p .sheet))
-      both-first h g left =
-          let y : headOf s (p .j) .tick ≤ headOf m (p .i) .tick = rw (x .next-m, x .next-s) at h in
-          let z : headOf m (p .i) .tick ≤ headOf s (p .j) .tick = rw (x .next-m, x .next-s) at g in
-          let same : headOf s (p .j) .tick ≡ headOf m (p .i) .tick = omega arith in
-          let low : headOf m (p .i) .tick < never = ⊎-elim
+      pub both-first : b .tick ≡ a .tick → p .i + p .j < length m + length s → Turned m s p (place (p .i + 1) (p .j + 1) (a .tick) (stepOf (p .seen) (a .tick) (a .kind) (b .kind)))
+      both-first same left =
+          let low : a .tick < never = ⊎-elim
           (λ v. head-low m rm (p .tick) (p .i) (x .model) fm (ltb-true (p .i) (length m) v))
           (λ w. omega (arith, x .model .inside, ltb-false (p .i) (length m) w, head-low s rs (p .tick) (p .j) (x .sheet) fs (omega (arith, x .model .inside, ltb-false (p .i) (length m) w))))
           (either (ltb (p .i) (length m))) in
           let later = head-later m rm (p .tick) (p .i) (x .model) fm low in
-          subst₂ (λ (a b : Head). Turned m s p (bothTaken m s p a b)) (sym (x .next-m)) (sym (x .next-s))
-          (taken _ _ _ _ _ _ _ later (λ n um us. head-upto m rm (p .tick) (p .i) (x .model) fm low n um)
-          (hit m rm (p .tick) (p .i) (x .model) fm low) (rw same at (hit s rs (p .tick) (p .j) (x .sheet) fs (omega arith))) refl refl (omega arith))
-
-      pub pass-on : p .i + p .j < length m + length s → Turned m s p (advanced m s p)
-      pass-on left =
-          let a = p .model .tick in
-          let b = p .sheet .tick in
-          ⊎-elim
-          (λ (t : ltb a b ≡ true). rw t (model-first (ltb-true a b t)))
-          (λ (f : ltb a b ≡ false). ⊎-elim
-          (λ (t : ltb b a ≡ true). rw (f, t) (sheet-first (ltb-true b a t)))
-          (λ (g : ltb b a ≡ false). rw (f, g) (both-first (ltb-false a b f) (ltb-false b a g) left))
-          (either (ltb b a)))
-          (either (ltb a b))
+          taken _ _ _ _ _ later (λ n um us. head-upto m rm (p .tick) (p .i) (x .model) fm low n um)
+          (hit m rm (p .tick) (p .i) (x .model) fm low) (rw same at (hit s rs (p .tick) (p .j) (x .sheet) fs (omega arith))) (omega arith)
 
 -- ---- the judge's own loop, which keeps no tick and has the next events in variables
-abbrev passAt : List ℕ → List ℕ → ℕ → ℕ → ℕ → Seen → Pass
-passAt m s i j t seen = record { i = i; j = j; model = headOf m i; sheet = headOf s j; tick = t; seen = seen }
-
 abbrev pub At : List ℕ → List ℕ → ℕ → ℕ → Seen → Type 0
-At m s i j seen = (t : ℕ) × Passed m s (passAt m s i j t seen)
+At m s i j seen = (t : ℕ) × Passed m s (place i j t seen)
 
 module _ (m s : List ℕ) (rm : Rising m) (rs : Rising s) (i j : ℕ) (seen : Seen) (x : At m s i j seen) where
+  abbrev here : Place
+  here = place i j (x .0) seen
+
   module _ (fm : tickAt m i < never) (fs : tickAt s j < never) (a b : Head) (ea : a ≡ headOf m i) (eb : b ≡ headOf s j) where
     pub by-model : a .tick < b .tick → At m s (i + 1) j (stepOf seen (a .tick) (a .kind) quiet)
     by-model h =
         let l : headOf m i .tick < headOf s j .tick = rw (ea, eb) at h in
-        rw ea (headOf m i .tick, model-first m s rm rs (passAt m s i j (x .0) seen) (x .1) fm fs l .passed)
+        rw ea (headOf m i .tick, model-first m s rm rs here (x .1) fm fs l .passed)
 
     pub by-sheet : b .tick < a .tick → At m s i (j + 1) (stepOf seen (b .tick) quiet (b .kind))
     by-sheet h =
         let l : headOf s j .tick < headOf m i .tick = rw (ea, eb) at h in
-        rw eb (headOf s j .tick, sheet-first m s rm rs (passAt m s i j (x .0) seen) (x .1) fm fs l .passed)
+        rw eb (headOf s j .tick, sheet-first m s rm rs here (x .1) fm fs l .passed)
 
     pub by-both : b .tick ≤ a .tick → a .tick ≤ b .tick → i + j < length m + length s → At m s (i + 1) (j + 1) (stepOf seen (a .tick) (a .kind) (b .kind))
     by-both h g left =
         let k : headOf s j .tick ≤ headOf m i .tick = rw (ea, eb) at h in
         let l : headOf m i .tick ≤ headOf s j .tick = rw (ea, eb) at g in
-        rw (ea, eb) (headOf m i .tick, both-first m s rm rs (passAt m s i j (x .0) seen) (x .1) fm fs k l left .passed)
+        rw (ea, eb) (headOf m i .tick, both-first m s rm rs here (x .1) fm fs (omega arith) left .passed)
 
   pub at-end : length m + length s ≤ i + j → (n : ℕ) → UpTo n m → UpTo n s → seen ≡ scanTo (historyOf m) (historyOf s) n
-  at-end h n um us = pass-end m s rm rs (passAt m s i j (x .0) seen) (x .1) h n um us
+  at-end h n um us = pass-end m s rm rs here (x .1) h n um us

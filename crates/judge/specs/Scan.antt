@@ -1,5 +1,5 @@
 -- The judge's pass, tick by tick: what the code follows. proofs/Standing.antt shows that it tells the verdict of the formula.
-use Prim.Native.Nat.{ℕ, zero, suc, _+_}
+use Prim.Native.Nat.{ℕ, zero, suc}
 use mathlib.Core.Bool.{Bool, true, false, cond, not, _&&_, _||_}
 use mathlib.Core.List.{List}
 use lib.Dec.{eqb, ltb}
@@ -15,7 +15,6 @@ use Rattle.judge.specs.declared.scan.Standing.{Standing}
 use Rattle.judge.specs.declared.scan.Standing.the-variants.{Never, ByAdd, ByJoin, Left, Removed}
 use Rattle.judge.specs.declared.scan.Seen.{Seen}
 use Rattle.judge.specs.declared.scan.Head.{Head}
-use Rattle.judge.specs.declared.scan.Pass.{Pass}
 
 -- a strict event ends a grant and nothing else
 abbrev pub endedBy : Standing → Standing → Standing
@@ -70,32 +69,3 @@ never = 1048576
 
 abbrev pub headOf : List ℕ → ℕ → Head
 headOf s i = cond (ltb i (length s)) (record { tick = tickOf (getD s i 0); kind = kindOf (getD s i 0) }) (record { tick = never; kind = quiet })
-
--- the pass before the first tick
-abbrev pub begun : List ℕ → List ℕ → Pass
-begun m s = record { i = 0; j = 0; model = headOf m 0; sheet = headOf s 0; tick = 0; seen = start }
-
--- the pass with the model's next event taken, the sheet's, or both in one tick
-abbrev pub modelTaken : List ℕ → Pass → Head → Pass
-modelTaken m p a =
-    record { i = p .i + 1; j = p .j; model = headOf m (p .i + 1); sheet = p .sheet; tick = a .tick; seen = stepOf (p .seen) (a .tick) (a .kind) quiet }
-
-abbrev pub sheetTaken : List ℕ → Pass → Head → Pass
-sheetTaken s p b =
-    record { i = p .i; j = p .j + 1; model = p .model; sheet = headOf s (p .j + 1); tick = b .tick; seen = stepOf (p .seen) (b .tick) quiet (b .kind) }
-
-abbrev pub bothTaken : List ℕ → List ℕ → Pass → Head → Head → Pass
-bothTaken m s p a b = record {
-  i = p .i + 1;
-  j = p .j + 1;
-  model = headOf m (p .i + 1);
-  sheet = headOf s (p .j + 1);
-  tick = a .tick;
-  seen = stepOf (p .seen) (a .tick) (a .kind) (b .kind);
-}
-
--- the pass with the events of the next tick taken
-abbrev pub advanced : List ℕ → List ℕ → Pass → Pass
-advanced m s p =
-    cond (ltb (p .model .tick) (p .sheet .tick)) (modelTaken m p (p .model))
-    (cond (ltb (p .sheet .tick) (p .model .tick)) (sheetTaken s p (p .sheet)) (bothTaken m s p (p .model) (p .sheet)))

@@ -5,7 +5,7 @@ ghost use lib.ListN.{length};
 ghost use Rattle.rules.specs.Ranges.{events};
 ghost use Rattle.strip.specs.History.{historyOf};
 ghost use Rattle.strip.proofs.Places.{Rising, UpTo};
-ghost use Rattle.judge.specs.Scan.{toldBy, holding, endedBy, standsAfter, stepOf, scanTo, headOf, begun, advanced};
+ghost use Rattle.judge.specs.Scan.{toldBy, holding, endedBy, standsAfter, stepOf, scanTo, headOf};
 use formula::Cause;
 use formula::Moment;
 use formula::Verdict;
@@ -30,16 +30,6 @@ pub struct Seen {
 pub struct Head {
     pub tick: u32,
     pub kind: u32,
-}
-
-// Where the pass stands: the places of the next events, what these are, the last tick taken, and what is known after it.
-pub struct Pass {
-    pub i: usize,
-    pub j: usize,
-    pub model: Head,
-    pub sheet: Head,
-    pub tick: u32,
-    pub seen: Seen,
 }
 
 // Above the tick of any word.
@@ -84,7 +74,7 @@ fn stands(
 }
 
 // One tick with its events.
-fn step(before: Seen, tick: u32, model: u32, sheet: u32) -> Seen
+pub fn step(before: Seen, tick: u32, model: u32, sheet: u32) -> Seen
     ensures { λ r. ⌜ r ≡ stepOf before tick model sheet ⌝ }
 {
     let join = (model == rules::SJ) | (model == rules::LJ);
@@ -109,7 +99,7 @@ fn step(before: Seen, tick: u32, model: u32, sheet: u32) -> Seen
     }
 }
 
-fn next_event(s: &[u32], i: usize) -> Head
+pub fn next_event(s: &[u32], i: usize) -> Head
     ensures { λ r. ⌜ r ≡ headOf (s .entry .now) i ⌝ }
 {
     if i < s.len() {
@@ -123,66 +113,6 @@ fn next_event(s: &[u32], i: usize) -> Head
             tick: NEVER,
             kind: rules::QUIET,
         }
-    }
-}
-
-// Before the first tick.
-pub fn begin(m: &[u32], s: &[u32]) -> Pass
-    ensures { λ r. ⌜ r ≡ begun (m .entry .now) (s .entry .now) ⌝ }
-{
-    Pass {
-        i: 0,
-        j: 0,
-        model: next_event(m, 0),
-        sheet: next_event(s, 0),
-        tick: 0,
-        seen: Seen {
-            inside: false,
-            liberal: false,
-            standing: Standing::Never,
-        },
-    }
-}
-
-// Takes the events of the next tick that has any.
-pub fn advance(m: &[u32], s: &[u32], pass: Pass) -> Pass
-    requires { ⌜ (pass .i ≤ length (m .now)) × (pass .j ≤ length (s .now)) ⌝ }
-    ensures { λ r. ⌜ r ≡ advanced (m .entry .now) (s .entry .now) pass ⌝ }
-{
-    let model = pass.model;
-    let sheet = pass.sheet;
-    let seen = pass.seen;
-    if model.tick < sheet.tick {
-        let i = pass.i + 1;
-        return Pass {
-            i,
-            j: pass.j,
-            model: next_event(m, i),
-            sheet,
-            tick: model.tick,
-            seen: step(seen, model.tick, model.kind, rules::QUIET),
-        };
-    }
-    if sheet.tick < model.tick {
-        let j = pass.j + 1;
-        return Pass {
-            i: pass.i,
-            j,
-            model,
-            sheet: next_event(s, j),
-            tick: sheet.tick,
-            seen: step(seen, sheet.tick, rules::QUIET, sheet.kind),
-        };
-    }
-    let i = pass.i + 1;
-    let j = pass.j + 1;
-    Pass {
-        i,
-        j,
-        model: next_event(m, i),
-        sheet: next_event(s, j),
-        tick: model.tick,
-        seen: step(seen, model.tick, model.kind, sheet.kind),
     }
 }
 

@@ -12,11 +12,13 @@ use Rattle.formula.specs.Ticks.{grant}
 use Rattle.formula.proofs.Move.{grant-start}
 use Rattle.strip.specs.History.{historyOf}
 use Rattle.strip.proofs.Places.{Rising, UpTo}
-use Rattle.judge.specs.Scan.{holding, begun}
-use Rattle.judge.specs.declared.scan.Pass.{Pass}
+use Rattle.judge.specs.Scan.{holding}
 use Rattle.judge.specs.declared.scan.Seen.{Seen}
-use Rattle.judge.proofs.Pass.{Gap, Passed, Turned, over-gap, pass-start, quiet-end}
+use Rattle.judge.proofs.Pass.{Gap, Turned, over-gap, quiet-end}
 use Rattle.judge.proofs.Standing.{scan-holds}
+use Rattle.pass.specs.Pass.{begun}
+use Rattle.pass.specs.declared.Pass.{Pass}
+use Rattle.pass.proofs.Turn.{placeOf, Stands, Turns, begins}
 use Rattle.span.specs.Answer.{spansIn}
 use Rattle.span.specs.Spans.{Span}
 use Rattle.span.specs.SpansOf.{endedAt, spansFrom}
@@ -46,7 +48,7 @@ module _ (m s : List ℕ) (now : ℕ) where
   holds = grant (historyOf m) (historyOf s)
 
   pub record Going (was : List ℕ) (p : Pass) (so : Spanning) (list : List ℕ) : Type 0 where
-    pub passed : Passed m s p
+    pub stands : Stands m s p
     -- a span is open exactly where the grant holds
     pub opened : holds (p .tick) ≡ isOpen (so .first)
     -- no more spans than events
@@ -60,7 +62,7 @@ module _ (m s : List ℕ) (now : ℕ) where
     going-start list =
         let all : spansIn m s now ≡ left holds now 0 0 = ap (spansFrom holds 0 0) (let e : now ≡ now - 0 = omega arith in e) in
         record {
-          passed = pass-start m s rm rs;
+          stands = begins m s rm rs;
           opened = grant-start (historyOf m) (historyOf s);
           few = omega arith;
           count = ap length all ∙ (let e : length (left holds now 0 0) ≡ 0 + length (left holds now 0 0) = omega arith in e);
@@ -77,7 +79,10 @@ module _ (m s : List ℕ) (now : ℕ) where
           ∙ scan-holds (historyOf m) (historyOf s) (p .tick)
           ∙ x .opened
 
-      module _ (q : Pass) (t : Turned m s p q) where
+      module _ (q : Pass) (turns : Turns m s p q) where
+        abbrev t : Turned m s (placeOf p) (placeOf q)
+        t = turns .turned
+
         -- the grant after the tick, as the pass tells it
         told : holding (q .seen .standing) ≡ holds (q .tick)
         told = ap (λ (y : Seen). holding (y .standing)) (t .passed .so-far) ∙ scan-holds (historyOf m) (historyOf s) (q .tick)
@@ -94,7 +99,7 @@ module _ (m s : List ℕ) (now : ℕ) where
         on g e =
             let upto = t .passed .upto now um us in
             subst (λ (b : Bool). Going was q (turned so (q .tick) b) (turnedList list so (q .tick) b)) (sym e) (record {
-              passed = t .passed;
+              stands = turns .stands;
               opened = turn-open so (q .tick) (holds (q .tick)) (omega (arith, t .later));
               few = omega (arith, more (so .first) (so .count) (holds (q .tick)), x .few, t .more);
               count = x .count ∙ turn-count holds now so (p .tick) (q .tick) (t .later) upto quiet;
@@ -109,8 +114,8 @@ module _ (m s : List ℕ) (now : ℕ) where
       module _ (h : length m + length s ≤ p .i + p .j) where
         rest : left holds now (so .first) (p .tick) ≡ endedAt (so .first) now
         rest =
-            over holds now (so .first) (p .tick) now (x .passed .upto now um us) (omega arith)
-            (λ u a b. stays u (omega arith) (λ v y z. quiet-end m s rm rs p (x .passed) h v y))
+            over holds now (so .first) (p .tick) now (x .stands .passed .upto now um us) (omega arith)
+            (λ u a b. stays u (omega arith) (λ v y z. quiet-end m s rm rs (placeOf p) (x .stands .passed) h v y))
             ∙ at-end holds now (so .first)
 
         pub going-count : ended so .count ≡ length (spansIn m s now)

@@ -77,10 +77,10 @@ fn pairs(m: &[u32], s: &[u32], now: u32, list: &mut [u32]) -> usize
     requires { ⌜ Accepted (m .now) (s .now) now ⌝ }
     ensures { λ r. ⌜ (r ≡ length (spansIn (m .entry .now) (s .entry .now) now)) × (list .exit .now ≡ pairsFrom (list .entry .now) 0 (spansIn (m .entry .now) (s .entry .now) now)) ⌝ }
 {
-    let mut pass = scan::begin(m, s);
+    let mut pass = pass::begin(m, s);
     let mut spanning = Spanning { first: 0, count: 0 };
     while pass.i + pass.j < m.len() + s.len() {
-        pass = scan::advance(m, s, pass);
+        pass = pass::advance(m, s, pass);
         let seen = pass.seen;
         let standing = seen.standing;
         spanning = turn(&mut *list, spanning, pass.tick, scan::holds(standing));

@@ -5,9 +5,9 @@ use Prim.Native.Nat.{ℕ, _+_, _-_, _<_, _≤_}
 use native.Mathlib.Omega.{arith}
 use lib.ListN.{length}
 use Rattle.strip.proofs.Places.{tickAt, good-rising, good-upto}
-use Rattle.judge.specs.Scan.{never, holding}
-use Rattle.judge.specs.declared.scan.Pass.{Pass}
-use Rattle.judge.proofs.Pass.{Turned, pass-on}
+use Rattle.judge.specs.Scan.{never}
+use Rattle.pass.specs.declared.Pass.{Pass}
+use Rattle.pass.proofs.Turn.{Turns, turns}
 use Rattle.span.specs.Steps.{turned, turnedList}
 use Rattle.span.specs.declared.Spanning.{Spanning}
 use Rattle.span.proofs.Going.{Going, going-start, going-on, going-count, going-list, long-ended}
@@ -38,19 +38,19 @@ add-if1-2 : tie.Need-add-if1-2 Inv-loop μ-loop
 add-if1-2 c = search needs
 
 advance-requires : tie.Need-advance-requires Inv-loop μ-loop
-advance-requires c κs = (c .before .before .loop .inv .passed .model .inside, c .before .before .loop .inv .passed .sheet .inside)
+advance-requires c κs = (c .before .before .loop .inv .stands .passed .model .inside, c .before .before .loop .inv .stands .passed .sheet .inside)
 
 -- the pass has turned
 went : (c : tie.After-advance Inv-loop μ-loop)
-    → let at = c .before .before .before in let a = at .before .before .before .before .before .args in Turned (a .m .now) (a .s .now) (at .loop .pass) (c .advance .result)
+    → let at = c .before .before .before in let a = at .before .before .before .before .before .args in Turns (a .m .now) (a .s .now) (at .loop .pass) (c .advance .result)
 went c =
     let at = c .before .before .before in
     let start = at .before .before .before .before .before in
     let a = start .args in
     let fm : tickAt (a .m .now) (at .loop .pass .i) < never = omega (arith, at .before .before .before .before .shared-slice-known .given (at .loop .pass .i)) in
     let fs : tickAt (a .s .now) (at .loop .pass .j) < never = omega (arith, at .before .before .before .shared-slice-known2 .given (at .loop .pass .j)) in
-    subst (λ (q : Pass). Turned (a .m .now) (a .s .now) (at .loop .pass) q) (sym (c .advance .ensures))
-    (pass-on _ _ (good-rising _ _ _ (start .pre .good-m)) (good-rising _ _ _ (start .pre .good-s)) (at .loop .pass) (at .loop .inv .passed) fm fs (c .before .if1 .taken))
+    subst (λ (q : Pass). Turns (a .m .now) (a .s .now) (at .loop .pass) q) (sym (c .advance .ensures))
+    (turns _ _ (good-rising _ _ _ (start .pre .good-m)) (good-rising _ _ _ (start .pre .good-s)) (at .loop .pass) (at .loop .inv .stands) fm fs (c .before .if1 .taken))
 
 holds-requires : tie.Need-holds-requires Inv-loop μ-loop
 holds-requires c κs = search needs
@@ -60,15 +60,15 @@ small : (at : tie.At-loop Inv-loop μ-loop) → at .loop .spanning .count ≤ 65
 small at =
     let x = at .loop .inv in
     let pre = at .before .before .before .before .before .pre in
-    omega (arith, x .few, x .passed .model .inside, x .passed .sheet .inside, pre .short-m, pre .short-s)
+    omega (arith, x .few, x .stands .passed .model .inside, x .stands .passed .sheet .inside, pre .short-m, pre .short-s)
 
 turn-requires : tie.Need-turn-requires Inv-loop μ-loop
-turn-requires c κs = (omega (arith, went (c .before .before .before) .later), small (c .before .before .before .before .before .before))
+turn-requires c κs = (omega (arith, went (c .before .before .before) .turned .later), small (c .before .before .before .before .before .before))
 
 loop-less : tie.Need-loop-less Inv-loop μ-loop
 loop-less c =
     let b = c .before .before .before .before .before .before in
-    omega (arith, went b .more, b .before .if1 .taken)
+    omega (arith, went b .turned .more, b .before .if1 .taken)
 
 loop-again : tie.Need-loop-again Inv-loop μ-loop
 loop-again c =

@@ -1,6 +1,6 @@
 use borrow.Author.Needs.{needs}
-use Rattle.judge.proofs.scan.begin.Statement.{statement}
-use Rattle.judge.proofs.scan.begin.Tie as tie
+use Rattle.pass.proofs.begin.Statement.{statement}
+use Rattle.pass.proofs.begin.Tie as tie
 
 next-event-requires : tie.Need-next-event-requires
 next-event-requires c κs = search needs

@@ -1,7 +1,7 @@
 use borrow.Author.Tests.{lt-ltb, le-ltb}
 use borrow.Author.Needs.{needs}
-use Rattle.judge.proofs.scan.advance.Statement.{statement}
-use Rattle.judge.proofs.scan.advance.Tie as tie
+use Rattle.pass.proofs.advance.Statement.{statement}
+use Rattle.pass.proofs.advance.Tie as tie
 
 add-i : tie.Need-add-i
 add-i c = search needs

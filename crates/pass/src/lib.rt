@@ -1,0 +1,77 @@
+// The pass over two strips, taken a tick at a time: for callers that want to know what held between the events. The judge, which wants only the end, has a loop
+// of its own over the same steps and laws: a turn that two loops share is not inlined, and costs it a third of its speed.
+ghost use mathlib.Core.Path.{_≡_};
+ghost use Prim.Native.Nat.{_≤_};
+ghost use lib.ListN.{length};
+ghost use Rattle.pass.specs.Pass.{begun, advanced};
+use judge::scan;
+
+// Where the pass stands: the places of the next events, what these are, the last tick taken, and what is known after it.
+pub struct Pass {
+    pub i: usize,
+    pub j: usize,
+    pub model: scan::Head,
+    pub sheet: scan::Head,
+    pub tick: u32,
+    pub seen: scan::Seen,
+}
+
+// Before the first tick.
+pub fn begin(m: &[u32], s: &[u32]) -> Pass
+    ensures { λ r. ⌜ r ≡ begun (m .entry .now) (s .entry .now) ⌝ }
+{
+    Pass {
+        i: 0,
+        j: 0,
+        model: scan::next_event(m, 0),
+        sheet: scan::next_event(s, 0),
+        tick: 0,
+        seen: scan::Seen {
+            inside: false,
+            liberal: false,
+            standing: scan::Standing::Never,
+        },
+    }
+}
+
+// Takes the events of the next tick that has any.
+pub fn advance(m: &[u32], s: &[u32], pass: Pass) -> Pass
+    requires { ⌜ (pass .i ≤ length (m .now)) × (pass .j ≤ length (s .now)) ⌝ }
+    ensures { λ r. ⌜ r ≡ advanced (m .entry .now) (s .entry .now) pass ⌝ }
+{
+    let model = pass.model;
+    let sheet = pass.sheet;
+    let seen = pass.seen;
+    if model.tick < sheet.tick {
+        let i = pass.i + 1;
+        return Pass {
+            i,
+            j: pass.j,
+            model: scan::next_event(m, i),
+            sheet,
+            tick: model.tick,
+            seen: scan::step(seen, model.tick, model.kind, rules::QUIET),
+        };
+    }
+    if sheet.tick < model.tick {
+        let j = pass.j + 1;
+        return Pass {
+            i: pass.i,
+            j,
+            model,
+            sheet: scan::next_event(s, j),
+            tick: sheet.tick,
+            seen: scan::step(seen, sheet.tick, rules::QUIET, sheet.kind),
+        };
+    }
+    let i = pass.i + 1;
+    let j = pass.j + 1;
+    Pass {
+        i,
+        j,
+        model: scan::next_event(m, i),
+        sheet: scan::next_event(s, j),
+        tick: model.tick,
+        seen: scan::step(seen, model.tick, model.kind, sheet.kind),
+    }
+}
