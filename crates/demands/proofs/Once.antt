@@ -40,8 +40,14 @@ use Rattle.group.specs.declared.ReadAnswer.{ReadAnswer}
 use Rattle.group.specs.declared.Settled.{Settled}
 use Rattle.judge.specs.Checked as check
 use Rattle.judge.specs.Judge.{checked, judgedBy}
+use Rattle.judge.specs.Scan.{headOf, stepOf, holding, toldBy}
 use Rattle.judge.specs.declared.check.Checked.{Checked}
+use Rattle.judge.specs.declared.scan.Head.{Head}
+use Rattle.judge.specs.declared.scan.Seen.{Seen}
+use Rattle.judge.specs.declared.scan.Standing.{Standing}
 use Rattle.judge.proofs.Promise.{Meets, one-evidence}
+use Rattle.pass.specs.Pass.{begun}
+use Rattle.pass.specs.declared.Pass.{Pass}
 use Rattle.span.specs.Answer.{spansAnswer, listAfter}
 use Rattle.span.specs.declared.SpansAnswer.{SpansAnswer}
 use Rattle.station.specs.Mask.{maskAnswer}
@@ -106,6 +112,12 @@ pub record PromisesDetermine : Type 0 where
   pub settled : (g : Group) → Once Settled (λ r. r ≡ settledBy g)
   pub is-rising : (ws : List ℕ) → Once Bool (λ r. r ≡ rising ws)
   pub place-from : (ws : List ℕ) (t : ℕ) → Once ℕ (λ r. (r ≡ placeFrom ws t) × (r ≤ length ws))
+  -- the pass over two strips: before the first tick, the next event, a tick's events taken, what the standing tells
+  pub begin : (m s : List ℕ) → Once Pass (λ r. r ≡ begun m s)
+  pub next-event : (s : List ℕ) (i : ℕ) → Once Head (λ r. r ≡ headOf s i)
+  pub scan-step : (seen : Seen) (t model sheet : ℕ) → Once Seen (λ r. r ≡ stepOf seen t model sheet)
+  pub holds : (x : Standing) → Once Bool (λ r. r ≡ holding x)
+  pub told : (x : Standing) → Once Verdict (λ r. r ≡ toldBy x)
   -- the numbers of a verdict
   pub number : (v : Verdict) → Once ℕ (λ r. r ≡ numberOf v)
   pub value : (v : Verdict) → Once ℕ (λ r. r ≡ valueOf v)
@@ -160,6 +172,11 @@ promises-determine = record {
   settled = λ g. one (settledBy g);
   is-rising = λ ws. one (rising ws);
   place-from = λ ws t r u p q. p .0 ∙ sym (q .0);
+  begin = λ m s. one (begun m s);
+  next-event = λ s i. one (headOf s i);
+  scan-step = λ seen t model sheet. one (stepOf seen t model sheet);
+  holds = λ x. one (holding x);
+  told = λ x. one (toldBy x);
   number = λ v. one (numberOf v);
   value = λ v. one (valueOf v);
   text = λ out at bytes. two (addedEnd out at bytes) (added out at bytes);
