@@ -1,9 +1,9 @@
 -- "When could it read?" The list of the spans is what the gate did. For any calls from a fresh group and any calls after them: when the first had been
 -- made, with t ticks closed, the read of a model and a sheet was granted exactly when t lies in a span of the two strips as they stand after the
 -- others. And asked for these two strips, `spans` writes that list. Assumes nothing.
-use mathlib.Core.Path.{_≡_, refl, sym, ap, _∙_, subst}
+use mathlib.Core.Path.{_≡_, sym, ap, _∙_, subst}
 use mathlib.Core.Logic.{_↔_, ⊎-elim}
-use mathlib.Core.List.{List, [], _++_}
+use mathlib.Core.List.{List, _++_}
 use Prim.Native.Nat.{ℕ, _+_, _≤_, _<_}
 use native.Mathlib.Omega.{arith}
 use native.Mathlib.Nat.{eq-or-lt-of-le}

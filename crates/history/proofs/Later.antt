@@ -1,11 +1,11 @@
 -- Later calls leave what was: no closed tick is opened again, and the events up to a closed tick stay as they were. Assumes nothing.
-use mathlib.Core.Path.{_≡_, refl, sym, ap, _∙_}
-use mathlib.Core.Bool.{Bool, true, false, cond, _&&_}
-use mathlib.Core.List.{List, [], _∷_, _++_}
+use mathlib.Core.Path.{_≡_, refl, sym, _∙_}
+use mathlib.Core.Bool.{Bool, true, false}
+use mathlib.Core.List.{List, [], _∷_}
 use mathlib.Core.Logic.{⊎-elim}
-use Prim.Native.Nat.{ℕ, suc, _≤_, _<_}
+use Prim.Native.Nat.{ℕ, _≤_}
 use native.Mathlib.Omega.{arith}
-use lib.Dec.{eqb, leb}
+use lib.Dec.{eqb}
 use borrow.Author.Tests.{eqb-true, eqb-false, ne-eqb, le-leb}
 use Rattle.base.proofs.Truth.{either}
 use Rattle.event.specs.Word.{wordOf, tickOf}
@@ -19,7 +19,7 @@ use Rattle.group.proofs.Carrier.{sheet-number}
 use Rattle.group.proofs.Close.{close-cases, closed-closed}
 use Rattle.group.proofs.Request.{request-code, request-keeps}
 use Rattle.history.specs.Run.{Call, request, close, Reached, openTick, step, run}
-use Rattle.history.specs.Strips.{keep, carriedBy, stripOf}
+use Rattle.history.specs.Strips.{keep, stripOf}
 use Rattle.history.proofs.Strips.{strip-later}
 
 -- ---- one call

@@ -1,16 +1,16 @@
 -- What the promises of the judge and of the evidence say in the formula's words. Assumes nothing.
-use mathlib.Core.Path.{_≡_, refl, sym, ap, _∙_}
+use mathlib.Core.Path.{_≡_, refl, sym, _∙_}
 use mathlib.Core.Bool.{true≢false}
 use mathlib.Core.Logic.{_⊎_, inl, inr, ⊎-elim, _↔_}
 use mathlib.Core.List.{List}
-use Prim.Native.Nat.{ℕ, _≤_, _<_}
+use Prim.Native.Nat.{ℕ, _<_}
 use native.Mathlib.Omega.{arith}
 use lib.Dec.{eqb}
 use lib.ListN.{length, getD}
 use denote.Ref.{RefT}
-use borrow.Author.Tests.{le-ltb, eq-eqb, ne-eqb}
+use borrow.Author.Tests.{eq-eqb, ne-eqb}
 use Rattle.base.proofs.First.{first-is}
-use Rattle.rules.specs.Ranges.{ticks, events}
+use Rattle.rules.specs.Ranges.{ticks}
 use Rattle.rules.specs.Kinds.{quiet, SA, LA, LJ}
 use Rattle.event.specs.Word.{tickOf, kindOf}
 use Rattle.formula.specs.Formula.{Grant, ByAdd, ByJoin}
@@ -22,9 +22,7 @@ use Rattle.formula.specs.declared.Moment.{Moment}
 use Rattle.formula.specs.declared.Moment.the-variants.{Add, Join}
 use Rattle.formula.proofs.Judged.{judged}
 use Rattle.strip.specs.declared.Side.the-variants.{Model, Sheet}
-use Rattle.strip.specs.Good.{Good, firstBad}
 use Rattle.strip.specs.History.{historyOf}
-use Rattle.strip.proofs.Bad.{good-none}
 use Rattle.strip.proofs.Places.{tickAt, Rising, good-rising, history-means}
 use Rattle.judge.specs.Judge.{Accepted, judgedBy}
 use Rattle.judge.specs.Evidence.{placeOf, evidenceOf, startOf}

@@ -1,6 +1,6 @@
 -- What is asked of two strips and now before a call answers, in the order of its refusals; and the judge's answer.
 use Prim.Native.Nat.{ℕ, _≤_}
-use mathlib.Core.Bool.{Bool, cond}
+use mathlib.Core.Bool.{cond}
 use mathlib.Core.List.{List}
 use lib.Dec.{ltb}
 use lib.ListN.{length}

@@ -7,11 +7,11 @@ use Prim.Native.Nat.{ℕ, zero, suc, _+_, _≤_, _<_}
 use native.Mathlib.Omega.{arith}
 use native.Mathlib.Nat.{eq-or-lt-of-le}
 use Rattle.base.proofs.Truth.{either}
-use Rattle.formula.specs.Formula.{History, Grant}
+use Rattle.formula.specs.Formula.{History}
 use Rattle.formula.specs.Ticks.{grant}
 use Rattle.formula.proofs.Meaning.{means-grant}
 use Rattle.span.specs.Spans.{Span, Apart, LiesIn, Spans}
-use Rattle.span.specs.SpansOf.{endedAt, spansFrom, spansOf}
+use Rattle.span.specs.SpansOf.{spansFrom, spansOf}
 
 -- ---- what is computed is the spans
 -- a span that is open at tick b began after tick a; without one, a is not after b

@@ -4,17 +4,17 @@ use mathlib.Core.Path.{_≡_, refl, sym, ap, _∙_}
 use mathlib.Core.Bool.{Bool, true, false, cond, not, false≢true}
 use mathlib.Core.List.{List, [], _∷_}
 use mathlib.Core.Logic.{⊎-elim}
-use Prim.Native.Nat.{ℕ, zero, suc, _+_, _*_, _≤_, _<_}
+use Prim.Native.Nat.{ℕ, zero, suc, _+_, _*_, _≤_}
 use native.Mathlib.Omega.{arith}
 use native.Mathlib.Nat.{add-zero, eq-or-lt-of-le}
 use lib.Dec.{eqb}
 use lib.ListN.{length}
-use borrow.Author.Tests.{eq-eqb, ne-eqb, eqb-true, eqb-false}
+use borrow.Author.Tests.{ne-eqb, eqb-true, eqb-false}
 use Rattle.base.specs.HowMany.{howMany}
 use Rattle.base.proofs.HowMany.{howMany-ext}
 use Rattle.base.proofs.Truth.{either, one-le}
 use Rattle.rules.specs.Kinds.{quiet}
-use Rattle.event.specs.Word.{tickOf, kindOf}
+use Rattle.event.specs.Word.{tickOf}
 use Rattle.formula.specs.Formula.{History}
 use Rattle.formula.specs.Ticks.{byAdd, byJoin, grant}
 use Rattle.formula.proofs.Meaning.{means-grant}

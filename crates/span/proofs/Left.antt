@@ -1,7 +1,7 @@
 -- What is left of the spans after a tick: nothing changes over quiet ticks, and a tick with events moves it as the code's turn does. Assumes nothing.
 use mathlib.Core.Path.{_≡_, refl, sym, ap, _∙_}
 use mathlib.Core.Bool.{Bool, true, false, cond, not}
-use mathlib.Core.List.{List, [], _∷_, _++_}
+use mathlib.Core.List.{List, _++_}
 use mathlib.Core.Logic.{⊎-elim}
 use Prim.Native.Nat.{ℕ, zero, suc, _+_, _-_, _≤_, _<_}
 use native.Mathlib.Omega.{arith}
@@ -9,7 +9,6 @@ use native.Mathlib.Nat.{eq-or-lt-of-le}
 use lib.Dec.{eqb, eqb·suc-zero}
 use lib.ListN.{length}
 use borrow.Author.Tests.{ne-eqb}
-use Rattle.base.proofs.Truth.{either}
 use Rattle.span.specs.Spans.{Span}
 use Rattle.span.specs.SpansOf.{openedAt, endedAt, spansFrom}
 use Rattle.span.specs.Steps.{pairsFrom, turned, turnedList, ended, endedList}

@@ -1,11 +1,16 @@
 -- What the code does turn by turn. proofs/Left.antt ties the turns to the spans.
 use mathlib.Core.Bool.{Bool, cond}
 use mathlib.Core.List.{List, [], _∷_}
-use Prim.Native.Nat.{ℕ, suc, _+_, _*_, _-_, _/_}
+use Prim.Native.Nat.{ℕ, _+_, _*_, _-_, _/_}
 use lib.Dec.{eqb, ltb}
 use lib.ListN.{length, set}
+use Rattle.rules.specs.Ranges.{events}
 use Rattle.span.specs.Spans.{Span}
 use Rattle.span.specs.declared.Spanning.{Spanning}
+
+-- no two strips have more events, and so no more spans
+abbrev pub most : ℕ
+most = 2 * events
 
 -- the list with a pair at its place, where it has room for it
 abbrev pub pairAt : List ℕ → ℕ → ℕ → ℕ → List ℕ

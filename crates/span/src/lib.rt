@@ -6,7 +6,7 @@ ghost use lib.Dec.{eqb};
 ghost use lib.ListN.{length};
 ghost use Rattle.judge.specs.Judge.{Accepted};
 ghost use Rattle.span.specs.Answer.{spansIn, spansAnswer, listAfter};
-ghost use Rattle.span.specs.Steps.{pairAt, pairsFrom, ended, endedList, turned, turnedList};
+ghost use Rattle.span.specs.Steps.{most, pairAt, pairsFrom, ended, endedList, turned, turnedList};
 use judge::scan;
 
 // A refusal's number with its place, 0 where it has none, and count 0; or 0 and 0 with how many spans there are.
@@ -35,7 +35,7 @@ fn write(list: &mut [u32], place: usize, first: u32, last: u32)
 
 // Ends the open span, where one is open.
 fn end(list: &mut [u32], was: Spanning, last: u32) -> Spanning
-    requires { ⌜ was .count ≤ 65536 ⌝ }
+    requires { ⌜ was .count ≤ most ⌝ }
     ensures { λ r. ⌜ (r ≡ ended was) × (list .exit .now ≡ endedList (list .entry .now) was last) ⌝ }
 {
     if was.first == 0 {
@@ -60,7 +60,7 @@ fn opened(since: u32, tick: u32) -> u32
 
 // A tick with events: the grant holds after it, or not.
 fn turn(list: &mut [u32], was: Spanning, tick: u32, holds: bool) -> Spanning
-    requires { ⌜ (1 ≤ tick) × (was .count ≤ 65536) ⌝ }
+    requires { ⌜ (1 ≤ tick) × (was .count ≤ most) ⌝ }
     ensures { λ r. ⌜ (r ≡ turned was tick holds) × (list .exit .now ≡ turnedList (list .entry .now) was tick holds) ⌝ }
 {
     if holds {
@@ -89,8 +89,9 @@ fn pairs(m: &[u32], s: &[u32], now: u32, list: &mut [u32]) -> usize
     last.count
 }
 
+// All pairs are written.
 fn given(count: usize) -> SpansAnswer
-    requires { ⌜ count ≤ 65536 ⌝ }
+    requires { ⌜ count ≤ most ⌝ }
     ensures { λ r. ⌜ r ≡ record { code = 0; place = 0; count = count } ⌝ }
 {
     SpansAnswer {

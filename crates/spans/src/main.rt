@@ -1,7 +1,8 @@
 // When could a model read a sheet? Lists the spans of a book, of every model and sheet or of those that the arguments name.
 mod ask;
 
-ghost use Prim.Native.Nat.{_≤_};
+ghost use Prim.Native.Nat.{_/_, _≤_};
+ghost use Rattle.rules.specs.Ranges.{events};
 use ask::Asked;
 use libc::STDOUT_FILENO;
 use report::page;
@@ -29,7 +30,7 @@ fn line(out: &mut [u8], page: Page, model: u32, sheet: u32, first: u32, last: u3
 
 // How many pairs of the list are spans: as many as were counted, and never more than it has.
 fn pairs(count: u32) -> usize
-    ensures { λ r. ⌜ r ≤ 2048 ⌝ }
+    ensures { λ r. ⌜ r ≤ events / 2 ⌝ }
 {
     if count as usize > LIST / 2 {
         return LIST / 2;

@@ -1,5 +1,5 @@
 -- The refusals are the check's; past them the pass tells the verdict.
-use mathlib.Core.Path.{_≡_, sym, ap, _∙_}
+use mathlib.Core.Path.{sym, ap, _∙_}
 use Rattle.formula.specs.Verdict.{verdict}
 use Rattle.formula.specs.declared.Verdict.the-variants.{Refused}
 use Rattle.strip.specs.History.{historyOf}

@@ -1,5 +1,5 @@
 -- The loop keeps what is left of the spans; a turn takes the events of the next tick.
-use mathlib.Core.Path.{_≡_, sym, ap, _∙_, subst, subst₂}
+use mathlib.Core.Path.{sym, ap, _∙_, subst, subst₂}
 use mathlib.Core.List.{List}
 use Prim.Native.Nat.{ℕ, _+_, _-_, _<_, _≤_}
 use native.Mathlib.Omega.{arith}
@@ -8,7 +8,7 @@ use Rattle.strip.proofs.Places.{tickAt, good-rising, good-upto}
 use Rattle.judge.specs.Scan.{never}
 use Rattle.pass.specs.declared.Pass.{Pass}
 use Rattle.pass.proofs.Turn.{Turns, turns}
-use Rattle.span.specs.Steps.{turned, turnedList}
+use Rattle.span.specs.Steps.{most, turned, turnedList}
 use Rattle.span.specs.declared.Spanning.{Spanning}
 use Rattle.span.proofs.Going.{Going, going-start, going-on, going-count, going-list, long-ended}
 use borrow.Author.Needs.{needs}
@@ -56,7 +56,7 @@ holds-requires : tie.Need-holds-requires Inv-loop μ-loop
 holds-requires c κs = search needs
 
 -- the count stays small
-small : (at : tie.At-loop Inv-loop μ-loop) → at .loop .spanning .count ≤ 65536
+small : (at : tie.At-loop Inv-loop μ-loop) → at .loop .spanning .count ≤ most
 small at =
     let x = at .loop .inv in
     let pre = at .before .before .before .before .before .pre in

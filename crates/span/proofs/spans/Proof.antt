@@ -1,20 +1,16 @@
 -- The refusals are the check's, then 40; a pass without room counts and leaves the list, one with room for all pairs writes them.
-use mathlib.Core.Path.{_≡_, refl, sym, ap, _∙_}
-use mathlib.Core.Bool.{true, false}
+use mathlib.Core.Path.{_≡_, sym, ap, _∙_}
 use mathlib.Core.List.{List, [], _++_}
 use Prim.Native.Nat.{ℕ, _*_, _<_, _≤_}
 use native.Mathlib.Omega.{arith}
-use lib.Dec.{ltb}
 use lib.ListN.{length}
-use borrow.Author.Tests.{lt-ltb, le-ltb}
-use Rattle.wire.specs.Put.{put}
 use Rattle.judge.specs.Checked as check
 use Rattle.judge.specs.Judge.{Accepted, checked}
 use Rattle.judge.specs.declared.check.Checked.{Checked}
-use Rattle.judge.proofs.Checked.{checks, check-accepts, check-refuses}
-use Rattle.span.specs.Answer.{flat, spansIn, crowded, refused, spansAnswer, listAfter}
+use Rattle.judge.proofs.Checked.{check-accepts}
+use Rattle.span.specs.Answer.{spansIn, refused, spansAnswer, listAfter}
 use Rattle.span.specs.Spans.{Span}
-use Rattle.span.specs.Steps.{pairsFrom}
+use Rattle.span.specs.Steps.{most, pairsFrom}
 use Rattle.span.specs.declared.SpansAnswer.{SpansAnswer}
 use Rattle.span.proofs.Answers.{answer-refused, list-refused, answer-crowded, list-crowded, answer-given, list-given}
 use Rattle.span.proofs.Few.{spans-few}
@@ -40,7 +36,7 @@ accepted : (c : tie.Else1) → let a = c .before .before .before .before .before
 accepted c = check-accepts _ _ _ (sym (ap (λ (x : Checked). x .code) (c .before .before .check .ensures)) ∙ c .if1 .left)
 
 -- no more pairs than half the events
-few : (c : tie.Else1) → let a = c .before .before .before .before .before .before .args in length (spansIn (a .m .now) (a .s .now) (a .now)) ≤ 65536
+few : (c : tie.Else1) → let a = c .before .before .before .before .before .before .args in length (spansIn (a .m .now) (a .s .now) (a .now)) ≤ most
 few c =
     let a = c .before .before .before .before .before .before .args in
     omega (arith, spans-few (a .m .now) (a .s .now) (a .now), accepted c .short-m, accepted c .short-s)
