@@ -11,7 +11,7 @@ use borrow.Author.Tests.{ltb-true, ltb-false, lt-ltb, le-ltb}
 use Rattle.base.specs.First.{first}
 use Rattle.base.proofs.First.{step-found, step-now, step-on}
 use Rattle.base.proofs.Truth.{either}
-use Rattle.demands.specs.Lines.{Refusal, none, Line, unmet, firstMet, eachBelow, Met}
+use Rattle.demands.specs.Lines.{Refusal, none, Line, unmet, firstMet, eachBelow, Met, NoneMet}
 
 -- ---- in words
 
@@ -24,10 +24,6 @@ met-first (l ∷ lines) (suc i) m =
     let rest : Met lines i = record { inside = omega (arith, m .inside); met = m .met; earlier = λ j h. m .earlier (suc j) (omega arith) } in
     let first-not : l .met ≡ false = m .earlier 0 (omega arith) in
     simp first-not (met-first lines i rest)
-
--- no line is met
-abbrev pub NoneMet : List Line → Type 0
-NoneMet lines = (i : ℕ) → i < length lines → getD lines i unmet .met ≡ false
 
 pub none-first : (lines : List Line) → NoneMet lines → firstMet lines ≡ none
 unfolding firstMet

@@ -15,8 +15,8 @@ use Rattle.book.specs.Tick.{tickPart, tickStart, rising, placeFrom}
 use Rattle.book.specs.Write.{bookWritten, bufferWritten}
 use Rattle.book.specs.declared.BookRead.{BookRead}
 use Rattle.book.specs.declared.BookWritten.{BookWritten}
-use Rattle.event.specs.Word.{tickOf, kindOf, numberOf as carrierOf}
-use Rattle.formula.specs.Answer.{numberOf, valueOf}
+use Rattle.event.specs.Word.{tickOf, kindOf, numberOf}
+use Rattle.formula.specs.Answer.{verdictNumber, verdictValue}
 use Rattle.formula.specs.declared.Verdict.{Verdict}
 use Rattle.ferrulebee.specs.Delivered.{deliveryNumbers}
 use Rattle.ferrulebee.specs.Judge.{packed, judgedFrom}
@@ -39,7 +39,7 @@ use Rattle.group.specs.declared.Group.{Group}
 use Rattle.group.specs.declared.ReadAnswer.{ReadAnswer}
 use Rattle.group.specs.declared.Settled.{Settled}
 use Rattle.judge.specs.Checked as check
-use Rattle.judge.specs.Judge.{checked, judgedBy}
+use Rattle.judge.specs.Judge.{checked, judgedBy, Judges}
 use Rattle.judge.specs.Scan.{headOf, stepOf, holding, toldBy}
 use Rattle.judge.specs.declared.check.Checked.{Checked}
 use Rattle.judge.specs.declared.scan.Head.{Head}
@@ -75,7 +75,7 @@ pub record PromisesDetermine : Type 0 where
   -- the station
   pub mask : (gs : List Group) (m s : ℕ) → Once MaskAnswer (λ r. r ≡ maskAnswer gs m s)
   -- the judge, on words and from C, and its evidence: the same words at the same place
-  pub judge : (m s : List ℕ) (now : ℕ) → Once Verdict (λ r. r ≡ judgedBy m s now)
+  pub judge : (m s : List ℕ) (now : ℕ) → Once Verdict (Judges m s now)
   pub judge-bytes : (m s : List ℕ) (now : ℕ) → Once ℕ (λ r. r ≡ packed (judgedFrom m s now))
   pub evidence : (m s : RefT (List ℕ)) (now : ℕ) (r t : RefT (List ℕ)) → Meets m s now r → Meets m s now t → (r .now ≡ t .now) × (r .ptr ≡ t .ptr)
   -- the check of two strips, and the spans with their list; from C they are the same
@@ -119,13 +119,13 @@ pub record PromisesDetermine : Type 0 where
   pub holds : (x : Standing) → Once Bool (λ r. r ≡ holding x)
   pub told : (x : Standing) → Once Verdict (λ r. r ≡ toldBy x)
   -- the numbers of a verdict
-  pub number : (v : Verdict) → Once ℕ (λ r. r ≡ numberOf v)
-  pub value : (v : Verdict) → Once ℕ (λ r. r ≡ valueOf v)
+  pub number : (v : Verdict) → Once ℕ (λ r. r ≡ verdictNumber v)
+  pub value : (v : Verdict) → Once ℕ (λ r. r ≡ verdictValue v)
   -- text and decimal digits added to a buffer
   pub text : (out : List ℕ) (at : ℕ) (bytes : List ℕ) → Once (ℕ × List ℕ) (λ r. (r .0 ≡ addedEnd out at bytes) × (r .1 ≡ added out at bytes))
   pub decimal : (out : List ℕ) (at n : ℕ) → Once (ℕ × List ℕ) (λ r. AddsDecimal out at n (r .1) (r .0))
   -- the parts of an event word
-  pub word : (w : ℕ) → Once (ℕ × ℕ × ℕ) (λ r. (r .0 ≡ tickOf w) × (r .1 ≡ kindOf w) × (r .2 ≡ carrierOf w))
+  pub word : (w : ℕ) → Once (ℕ × ℕ × ℕ) (λ r. (r .0 ≡ tickOf w) × (r .1 ≡ kindOf w) × (r .2 ≡ numberOf w))
 
 -- what equals a definition
 module _ {A : Type 0} where
@@ -146,12 +146,12 @@ promises-determine = record {
   read = λ g m s r t p q. p .answer ∙ sym (q .answer);
   models = λ g s. one (countAnswer g s);
   mask = λ gs m s. one (maskAnswer gs m s);
-  judge = λ m s now. one (judgedBy m s now);
+  judge = λ m s now r t p q. p .answer ∙ sym (q .answer);
   judge-bytes = λ m s now. one (packed (judgedFrom m s now));
   evidence = one-evidence;
   check = λ m s now. one (checked m s now check.refused check.accepted);
   spans = λ m s now list. two (spansAnswer m s now (length list)) (listAfter m s now list);
-  delivery = λ grants m store out. two _ _;
+  delivery = λ grants m store out r t p q i. ((p .0 .answer ∙ sym (q .0 .answer)) i, (p .1 ∙ sym (q .1)) i);
   reader = λ b list. two (bookRead b (length list)) (listRead b list);
   writer = λ T n ws buffer. two (bookWritten T n ws (length buffer)) (bufferWritten T n ws buffer);
   tick-part = λ ws t. two (tickPart (ws .now) t) (wordAt ws (tickStart (ws .now) t));
@@ -177,8 +177,8 @@ promises-determine = record {
   scan-step = λ seen t model sheet. one (stepOf seen t model sheet);
   holds = λ x. one (holding x);
   told = λ x. one (toldBy x);
-  number = λ v. one (numberOf v);
-  value = λ v. one (valueOf v);
+  number = λ v. one (verdictNumber v);
+  value = λ v. one (verdictValue v);
   text = λ out at bytes. two (addedEnd out at bytes) (added out at bytes);
   decimal = λ out at n r t p q. let e = one-decimal out at n (r .1) (t .1) (r .0) (t .0) p q in λ i. (e .1 i, e .0 i);
   word = λ w r t p q i. ((p .0 ∙ sym (q .0)) i, (p .1 ∙ sym (q .1)) i, (p .2 ∙ sym (q .2)) i);

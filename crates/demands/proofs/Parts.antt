@@ -6,26 +6,27 @@ use mathlib.Core.Logic.{_↔_}
 use Prim.Native.Nat.{ℕ, suc, _+_, _≤_, _<_}
 use native.Mathlib.Omega.{arith}
 use lib.Dec.{leb, ltb}
-use lib.ListN.{length, getD, drop, length-append}
-use lib.Seq.{drop-at}
+use lib.ListN.{length, getD, take, drop, length-append, length-drop}
+use lib.Seq.{take-at, drop-at}
 use borrow.Author.Tests.{leb-false, ltb-false, not-false}
 use Rattle.base.proofs.First.{first-le}
 use Rattle.rules.specs.Ranges.{models, sheets}
 use Rattle.rules.specs.Refusals.{badNumber, badStore, deliveryTooLong}
+use Rattle.wire.specs.Word.{bytes32}
 use Rattle.wire.proofs.Word.{length-bytes32}
 use Rattle.store.specs.Answer.{answer, written, bufferAfter}
-use Rattle.store.specs.Delivery.{part, parts, deliveryLength, deliveryOf, grantedSheets}
+use Rattle.store.specs.Delivery.{sheetBytes, part, parts, deliveryLength, deliveryOf, grantedSheets}
 use Rattle.store.specs.Entry.{offset, sheetLength}
 use Rattle.store.specs.Fault.{faulty, firstFaulty}
-use Rattle.store.specs.Granted.{granted}
+use Rattle.bits.specs.Granted.{granted}
 use Rattle.store.specs.Listed.{listed, Exactly}
 use Rattle.store.specs.Ready.{Ready}
 use Rattle.store.specs.Store.{goodStore}
 use Rattle.store.specs.declared.Delivery.{Delivery}
 use Rattle.store.specs.declared.Delivery.the-variants.{Delivered, Refused}
 use Rattle.store.proofs.Listed.{behind, inside, delivery-count, delivery-total, delivery-lists, delivered-exactly}
-use Rattle.store.proofs.Parts.{part-number, part-bytes, part-next}
-use Rattle.demands.specs.Delivered.{partsOf, partsIn, stored, Holds}
+use Rattle.store.proofs.Parts.{length-sheet, part-number, part-bytes, part-next}
+use Rattle.demands.specs.Delivered.{Part, partsOf, partsIn, flatParts, stored, Holds}
 
 -- ---- what `Delivered` tells
 
@@ -79,17 +80,30 @@ parts-found b (s ∷ ss) rest h =
     (λ i. record { number = number i; bytes = held i })
     (ap (λ (l : List ℕ). partsOf l (length ss)) (part-next b s (h 0 (omega arith)) after) ∙ parts-found b ss rest (λ i l. h (suc i) (omega arith)))
 
+-- the parts one behind the other are the bytes that were written
+parts-flat : (b ss : List ℕ) → ((i : ℕ) → i < length ss → offset b (getD ss i 0) + sheetLength b (getD ss i 0) ≤ length b)
+    → flatParts (map (stored b) ss) ≡ parts b ss
+unfolding flatParts parts part
+parts-flat b [] h = refl
+parts-flat b (s ∷ ss) h =
+    ap₂ (λ (n : ℕ) (rest : List ℕ). (bytes32 s ++ (bytes32 n ++ sheetBytes b s)) ++ rest) (length-sheet b s (h 0 (omega arith)))
+    (parts-flat b ss (λ i l. h (suc i) (omega arith)))
+
 -- ---- a delivery
 
 module _ (grants : List ℕ) (m : ℕ) (store rest : List ℕ) (ready : Ready grants m store) where
   abbrev mine : List ℕ
   mine = grantedSheets grants m
 
+  delivery-found : partsIn (deliveryOf store mine ++ rest) ≡ map (stored store) mine
+  delivery-found =
+      ap₂ partsOf (behind store mine rest) (delivery-count store mine rest) ∙ parts-found store mine rest (inside grants m store rest ready)
+
   delivery-parts : partsIn (deliveryOf store mine ++ rest) ≡ map (stored store) (listed (deliveryOf store mine ++ rest))
-  delivery-parts =
-      ap₂ partsOf (behind store mine rest) (delivery-count store mine rest)
-      ∙ parts-found store mine rest (inside grants m store rest ready)
-      ∙ ap (map (stored store)) (sym (delivery-lists grants m store rest ready))
+  delivery-parts = delivery-found ∙ ap (map (stored store)) (sym (delivery-lists grants m store rest ready))
+
+  delivery-flat : flatParts (partsIn (deliveryOf store mine ++ rest)) ≡ parts store mine
+  delivery-flat = ap flatParts delivery-found ∙ parts-flat store mine (inside grants m store rest ready)
 
 -- Where the grants say P, a delivery that is answered `Delivered` holds what one may have by P.
 module _ (grants : List ℕ) (m : ℕ) (P : ℕ → Type 0) (says : (s : ℕ) → s < sheets → (granted grants m s ≡ true) ↔ P s) (store out : List ℕ) (n : ℕ) where
@@ -99,8 +113,19 @@ module _ (grants : List ℕ) (m : ℕ) (P : ℕ → Type 0) (says : (s : ℕ) �
   length-given : length given ≡ deliveryLength store (grantedSheets grants m)
   length-given = simp (length-append, length-bytes32) (omega arith)
 
-  given-holds : Ready grants m store → deliveryLength store (grantedSheets grants m) ≡ n → Holds P store out n (given ++ drop n out)
-  given-holds ready e =
+  -- the whole of it, as its reader finds it
+  given-whole : Ready grants m store → deliveryLength store (grantedSheets grants m) ≡ n → let d = given ++ drop n out in
+      take n d ≡ bytes32 (length (listed d)) ++ (bytes32 n ++ flatParts (partsIn d))
+  given-whole ready e =
+      let d : List ℕ = given ++ drop n out in
+      let count : length (grantedSheets grants m) ≡ length (listed d) = ap length (sym (delivery-lists grants m store (drop n out) ready)) in
+      let flat : parts store (grantedSheets grants m) ≡ flatParts (partsIn d) = sym (delivery-flat grants m store (drop n out) ready) in
+      take-at given (drop n out) n (length-given ∙ e)
+      ∙ ap₂ (λ (k : ℕ) (x : List ℕ). bytes32 k ++ (bytes32 (deliveryLength store (grantedSheets grants m)) ++ x)) count flat
+      ∙ ap (λ (k : ℕ). bytes32 (length (listed d)) ++ (bytes32 k ++ flatParts (partsIn d))) e
+
+  given-holds : Ready grants m store → deliveryLength store (grantedSheets grants m) ≡ n → n ≤ length out → Holds P store out n (given ++ drop n out)
+  given-holds ready e room =
       let d : List ℕ = given ++ drop n out in
       let exactly : Exactly grants m (listed d) = delivered-exactly grants m store (drop n out) ready in
       record {
@@ -110,11 +135,16 @@ module _ (grants : List ℕ) (m : ℕ) (P : ℕ → Type 0) (says : (s : ℕ) �
         unaltered = delivery-parts grants m store (drop n out) ready;
         count = delivery-count store (grantedSheets grants m) (drop n out) ∙ ap length (sym (delivery-lists grants m store (drop n out) ready));
         total = delivery-total store (grantedSheets grants m) (drop n out) ∙ e;
+        whole = given-whole ready e;
+        exact = sym e ∙ ap (λ (l : List ℕ). 8 + length l) (sym (delivery-flat grants m store (drop n out) ready));
         beyond = drop-at given (drop n out) n (length-given ∙ e);
+        long = length-append given (drop n out) ∙ rw (length-given, e, length-drop n out) (omega arith);
       }
 
   pub delivered-holds : answer grants m store (length out) ≡ Delivered n → Holds P store out n (bufferAfter grants m store out)
   delivered-holds e =
       let left : bufferAfter grants m store out ≡ given ++ drop n out = ap (λ (x : Delivery). written x given out) e in
       subst (Holds P store out n) (sym left)
-      (given-holds (delivered-ready grants m store (length out) n e) (delivered-passed grants m store (length out) n e .total))
+      (let p = delivered-passed grants m store (length out) n e in
+      let fits : deliveryLength store (grantedSheets grants m) ≤ length out = ltb-false (length out) (deliveryLength store (grantedSheets grants m)) (p .room) in
+      given-holds (delivered-ready grants m store (length out) n e) (p .total) (omega (arith, p .total)))

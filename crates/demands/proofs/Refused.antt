@@ -13,7 +13,8 @@ use Rattle.group.specs.Close.{closedGroup, closeAnswer}
 use Rattle.group.specs.Count.{modelsGranted, countAnswer}
 use Rattle.group.specs.Fresh.{freshGroup, freshAnswer}
 use Rattle.group.specs.Marks.{carrierMarked, carrierIn}
-use Rattle.group.specs.Read.{granted, readRefusal, numberOf, grantOf, readAnswer}
+use Rattle.bits.specs.Granted.{granted}
+use Rattle.group.specs.Read.{readRefusal, readNumber, grantOf, readAnswer}
 use Rattle.group.specs.Request.{requestRefusal, requestAnswer}
 use Rattle.group.specs.declared.Answer.{Answer}
 use Rattle.group.specs.declared.CountAnswer.{CountAnswer}
@@ -57,12 +58,12 @@ count-refuses g s = go (leb sheets s)
 
 -- ---- read
 
-pub read-refuses : (g : Group) (m s : ℕ) → Refuses (readLines m s) (plain (numberOf (readAnswer g m s))) (grantOf (readAnswer g m s) ≡ false)
+pub read-refuses : (g : Group) (m s : ℕ) → Refuses (readLines m s) (plain (readNumber (readAnswer g m s))) (grantOf (readAnswer g m s) ≡ false)
 unfolding readAnswer firstMet
-read-refuses g m s = go (leb models m) (leb sheets s) (granted g m s)
+read-refuses g m s = go (leb models m) (leb sheets s) (granted (g .grants) m s)
   where
     go : (a b c : Bool) → let r : ReadAnswer = cond a (Refused badNumber) (cond b (Refused badNumber) (cond c Granted Denied)) in
-        Refuses (line a (plain badNumber) ∷ line b (plain badNumber) ∷ []) (plain (numberOf r)) (grantOf r ≡ false)
+        Refuses (line a (plain badNumber) ∷ line b (plain badNumber) ∷ []) (plain (readNumber r)) (grantOf r ≡ false)
     go true b c = record { first = refl; unchanged = λ r. refl }
     go false true c = record { first = refl; unchanged = λ r. refl }
     go false false true = record { first = refl; unchanged = λ r. absurd (r refl) }

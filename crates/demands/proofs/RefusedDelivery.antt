@@ -1,17 +1,21 @@
 -- A delivery's refusals, line by line. Assumes nothing.
 use mathlib.Core.Path.{_≡_, refl, ap, _∙_, sym}
-use mathlib.Core.Bool.{Bool, true, false, not, cond, _&&_, false≢true}
+use mathlib.Core.Bool.{Bool, true, false, not, cond, _&&_, false≢true, true≢false}
 use mathlib.Core.List.{List, [], _∷_}
 use Prim.Native.Nat.{ℕ}
+use native.Mathlib.Omega.{arith}
 use lib.Dec.{eqb, ltb, leb}
 use lib.ListN.{length}
+use borrow.Author.Tests.{ltb-true, eqb-false, not-true}
+use Rattle.base.proofs.First.{first-there}
+use Rattle.base.proofs.Truth.{both}
 use Rattle.rules.specs.Ranges.{models, sheets}
 use Rattle.rules.specs.Refusals.{badNumber, badStore, notInStore, badEntry, deliveryTooLong}
 use Rattle.store.specs.Answer.{answer, written, bufferAfter}
 use Rattle.store.specs.Delivery.{grantedSheets, deliveryLength, deliveryOf}
 use Rattle.store.specs.Entry.{goodEntry, entryFault}
 use Rattle.store.specs.Fault.{faulty, firstFaulty}
-use Rattle.store.specs.Granted.{granted}
+use Rattle.bits.specs.Granted.{granted}
 use Rattle.store.specs.Store.{sheetCount, goodStore}
 use Rattle.store.specs.declared.Delivery.{Delivery}
 use Rattle.store.specs.declared.Delivery.the-variants.{Delivered, Refused}
@@ -83,3 +87,31 @@ delivery-refuses grants m store out = record {
   first = first-told grants m store (length out);
   unchanged = kept (answer grants m store (length out)) (deliveryOf store (grantedSheets grants m)) out;
 }
+
+-- ---- a delivery that no line refuses
+
+not-refused : (d : Delivery) → ((number place : ℕ) → d ≡ Refused number place → number ≡ 0 → ⊥) → refusedDelivery d ≡ none → (n : ℕ) × (d ≡ Delivered n)
+not-refused (Delivered n) h e = (n, refl)
+not-refused (Refused number place) h e = absurd (h number place refl (ap (λ (r : Refusal). r .number) e))
+
+module _ (grants : List ℕ) (m : ℕ) (store : List ℕ) where
+  -- a refusal has no number 0
+  numbered : (a b c d : Bool) (x y n number place : ℕ) → (c ≡ true → x ≡ 0 → ⊥)
+      → cond a (Refused badNumber 0) (cond b (Refused badStore 0) (cond c (Refused x y) (cond d (Refused deliveryTooLong 0) (Delivered n)))) ≡ Refused number place
+      → number ≡ 0 → ⊥
+  numbered true b c d x y n number place h e z = let i : badNumber ≡ number = cc e in omega arith
+  numbered false true c d x y n number place h e z = let i : badStore ≡ number = cc e in omega arith
+  numbered false false true d x y n number place h e z = let i : x ≡ number = cc e in h refl (i ∙ z)
+  numbered false false false true x y n number place h e z = let i : deliveryTooLong ≡ number = cc e in omega arith
+  numbered false false false false x y n number place h e z = true≢false (cc e)
+
+  pub unrefused-delivered : (out : List ℕ) → firstMet (deliveryLines grants m store (length out)) ≡ none → (n : ℕ) × (answer grants m store (length out) ≡ Delivered n)
+  unfolding answer faulty
+  unrefused-delivered out e =
+      let found = firstFaulty grants m store in
+      let fault-there = entryFault store found in
+      not-refused (answer grants m store (length out))
+      (λ number place r. numbered (leb models m) (not (goodStore store)) (ltb (firstFaulty grants m store) sheets) (ltb (length out) (deliveryLength store (grantedSheets grants m)))
+      (entryFault store (firstFaulty grants m store)) (firstFaulty grants m store) (deliveryLength store (grantedSheets grants m)) number place
+      (λ t z. eqb-false fault-there 0 (not-true (eqb fault-there 0) (both (granted grants m found) (not (eqb fault-there 0)) (first-there (faulty grants m store) sheets (ltb-true found sheets t)) .1)) z) r)
+      (first-told grants m store (length out) ∙ e)

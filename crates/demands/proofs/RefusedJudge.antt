@@ -1,20 +1,21 @@
 -- The judge's refusals, line by line. Assumes nothing.
-use mathlib.Core.Path.{_≡_, refl, ap, sym, _∙_}
+use mathlib.Core.Path.{_≡_, refl, ap, sym, _∙_, subst}
 use mathlib.Core.Bool.{Bool, true, false, not, cond, or-false}
 use mathlib.Core.List.{List, [], _∷_, _++_}
+use mathlib.Core.Logic.{⊎-elim}
 use Prim.Native.Nat.{ℕ, _+_, _*_, _/_, _%_, _^_, _≤_}
 use native.Mathlib.Omega.{arith}
 use lib.Dec.{eqb, ltb, leb}
 use lib.ListN.{length}
 use borrow.Author.Tests.{leb-true, le-ltb, not-false}
 use Rattle.base.specs.First.{first}
-use Rattle.base.proofs.Truth.{both}
+use Rattle.base.proofs.Truth.{both, either}
 use Rattle.rules.specs.Kinds.{SL}
 use Rattle.rules.specs.Ranges.{ticks, events}
 use Rattle.rules.specs.Refusals.{lateNow, longModel, longSheet, badModel, badSheet}
 use Rattle.formula.specs.Formula.{History}
 use Rattle.formula.specs.Ticks.{byAdd, grant}
-use Rattle.formula.specs.Verdict.{latest, earliest, granted, denied, verdict}
+use Rattle.formula.specs.Verdict.{latest, earliest, grantedAt, denied, verdict}
 use Rattle.formula.specs.declared.Verdict.{Verdict}
 use Rattle.formula.specs.declared.Verdict.the-variants.{Granted, Denied, Refused}
 use Rattle.formula.specs.declared.Moment.the-variants.{Add, Join}
@@ -34,7 +35,7 @@ use Rattle.demands.proofs.Lines.{any, first-each, first-each-last}
 
 -- a verdict of two histories is no refusal
 answered : (model sheet : History) (now : ℕ) → refusedVerdict (verdict model sheet now) ≡ none
-unfolding verdict granted denied
+unfolding verdict grantedAt denied
 answered model sheet now =
     go (grant model sheet now) (byAdd model sheet (latest model sheet now)) (eqb (latest model sheet now) 0)
     (eqb (model (earliest model sheet (latest model sheet now) now)) SL) (latest model sheet now)
@@ -115,10 +116,17 @@ no-evidence (Granted moment) m s r = absurd (r refl)
 no-evidence (Denied cause) m s r = absurd (r refl)
 no-evidence (Refused number place) m s r = refl
 
-packed-refusal : (v : Verdict) → (refusedVerdict v .number ≡ 0 → ⊥) → packed v ≡ refusedVerdict v .number * 2 ^ 32 + refusedVerdict v .place
-packed-refusal (Granted moment) r = absurd (r refl)
-packed-refusal (Denied cause) r = absurd (r refl)
-packed-refusal (Refused number place) r = refl
+packed-verdict : (v : Verdict) → packed v ≡ cond (eqb (refusedVerdict v .number) 0) (packed v) (refusedVerdict v .number * 2 ^ 32 + refusedVerdict v .place)
+packed-verdict (Granted moment) = refl
+packed-verdict (Denied cause) = refl
+packed-verdict (Refused number place) = ⊎-elim (λ (t : eqb number 0 ≡ true). simp t) (λ (f : eqb number 0 ≡ false). simp f) (either (eqb number 0))
+
+packed-cases : (a b c : Bool) (v : Verdict) → let w = cond a (Refused lateNow 0) (cond b (Refused longModel 0) (cond c (Refused longSheet 0) v)) in
+    packed w ≡ cond (eqb (refusedVerdict w .number) 0) (packed v) (refusedVerdict w .number * 2 ^ 32 + refusedVerdict w .place)
+packed-cases true b c v = refl
+packed-cases false true c v = refl
+packed-cases false false true v = refl
+packed-cases false false false v = packed-verdict v
 
 whole-short : (b : List ℕ) → wholeStrip (length b) ≡ true → length (wordsIn b) ≤ events
 whole-short b w =
@@ -134,6 +142,8 @@ module _ (m s : List ℕ) (now : ℕ) where
   bytes-first = judge-order (ltb ticks now) (not (wholeStrip (length m))) (not (wholeStrip (length s))) _ _
       (λ a b c. simp (a, le-ltb _ _ (whole-short m (not-false _ b)), le-ltb _ _ (whole-short s (not-false _ c))) (strips-told (wordsIn m) (wordsIn s) now))
 
-  pub bytes-refuses : Refuses (bytesLines m s now) (refusedVerdict (judgedFrom m s now))
-      (packed (judgedFrom m s now) ≡ refusedVerdict (judgedFrom m s now) .number * 2 ^ 32 + refusedVerdict (judgedFrom m s now) .place)
-  bytes-refuses = record { first = bytes-first; unchanged = packed-refusal (judgedFrom m s now) }
+  -- a refusal goes to C as its number and place; what isn't refused is the judge's verdict on the words
+  pub bytes-packed : let refusal = firstMet (bytesLines m s now) in
+      packed (judgedFrom m s now) ≡ cond (eqb (refusal .number) 0) (packed (judgedBy (wordsIn m) (wordsIn s) now)) (refusal .number * 2 ^ 32 + refusal .place)
+  bytes-packed = subst (λ (r : Refusal). packed (judgedFrom m s now) ≡ cond (eqb (r .number) 0) (packed (judgedBy (wordsIn m) (wordsIn s) now)) (r .number * 2 ^ 32 + r .place))
+      bytes-first (packed-cases (ltb ticks now) (not (wholeStrip (length m))) (not (wholeStrip (length s))) (judgedBy (wordsIn m) (wordsIn s) now))

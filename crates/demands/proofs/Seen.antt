@@ -15,7 +15,8 @@ use Rattle.rules.specs.Ranges.{sheets, ticks}
 use Rattle.rules.specs.Refusals.{noTickLeft}
 use Rattle.group.specs.Carrier.{ofModel}
 use Rattle.group.specs.Fits.{Fits}
-use Rattle.group.specs.Read.{granted, readAnswer}
+use Rattle.bits.specs.Granted.{granted}
+use Rattle.group.specs.Read.{readAnswer}
 use Rattle.group.specs.Request.{requestAnswer}
 use Rattle.group.specs.View.{View, view, viewRefusal, viewRequest, viewClose, viewRead}
 use Rattle.group.specs.declared.Group.{Group}
@@ -25,8 +26,9 @@ use Rattle.group.proofs.Request.{request-refused}
 use Rattle.group.proofs.View.{other-model, view-refusal, view-request, view-close, view-close-code, view-read}
 use Rattle.store.specs.Agree.{Agree}
 use Rattle.store.proofs.Agree.{same-answer, same-buffer}
-use Rattle.demands.specs.Calls.{Call, request, close, read, count, deliver, coded, shown, delivered, answerTo, after}
+use Rattle.demands.specs.Calls.{Call, request, close, read, count, deliver, coded, shown, delivered, answerTo, Run, next}
 use Rattle.demands.specs.Alike.{forSheet, shared}
+use Rattle.demands.specs.Ours.{ours}
 
 -- ---- whose request it is
 
@@ -73,23 +75,29 @@ module _ (m : ℕ) where
       ap (view m) (request-refused g kind n (λ e. omega (arith, accepted g kind n e .known))))
       (either (ofModel kind))
 
-  pub unseen : (g : Group) (c : Call) → shared m c ≡ false → view m (after g c) ≡ view m g
-  unfolding shared after
-  unseen g (request kind n) f = other-request g kind n f
-  unseen g close f = absurd (true≢false f)
-  unseen g (read n s) f = refl
-  unseen g (count s) f = refl
-  unseen g (deliver n store out) f = refl
+  pub unseen : (r : Run Group) (c : Call) → shared m c ≡ false → view m (next ours r c .group) ≡ view m (r .group)
+  unfolding shared next
+  unseen r (request kind n) f = other-request (r .group) kind n f
+  unseen r close f = absurd (true≢false f)
+  unseen r (read n s) f = refl
+  unseen r (count s) f = refl
+  unseen r (deliver n store out) f = refl
 
   -- ---- what is shared
 
-  module _ (g h : Group) (alike : view m g ≡ view m h) where
-    -- the model's bits are seen, so stores that agree on its grants in one group agree on those of the other
-    bit-seen : (x : Group) (s : ℕ) → s < sheets → getD (view m x .grants) s false ≡ granted x m s
-    unfolding view
-    bit-seen x s l = getD-table sheets (λ s. granted x m s) s false l
+  module _ (x y : Run Group) (alike : view m (x .group) ≡ view m (y .group)) where
+    abbrev g : Group
+    g = x .group
 
-    same-bits : (s : ℕ) → s < sheets → granted g m s ≡ granted h m s
+    abbrev h : Group
+    h = y .group
+
+    -- the model's bits are seen, so stores that agree on its grants in one group agree on those of the other
+    bit-seen : (k : Group) (s : ℕ) → s < sheets → getD (view m k .grants) s false ≡ granted (k .grants) m s
+    unfolding view
+    bit-seen k s l = getD-table sheets (λ s. granted (k .grants) m s) s false l
+
+    same-bits : (s : ℕ) → s < sheets → granted (g .grants) m s ≡ granted (h .grants) m s
     same-bits s l = sym (bit-seen g s l) ∙ ap (λ (v : View). getD (v .grants) s false) alike ∙ bit-seen h s l
 
     across : (b b′ : List ℕ) → Agree (g .grants) (g .grants) m b b′ → Agree (g .grants) (h .grants) m b b′
@@ -105,16 +113,16 @@ module _ (m : ℕ) where
       bytes = λ s l t i. refl;
     }
 
-    pub same-delivery : (b b′ out : List ℕ) → Agree (g .grants) (g .grants) m b b′ → answerTo g (deliver m b out) ≡ answerTo h (deliver m b′ out)
+    pub same-delivery : (b b′ out : List ℕ) → Agree (g .grants) (g .grants) m b b′ → answerTo ours g (deliver m b out) ≡ answerTo ours h (deliver m b′ out)
     unfolding answerTo
     same-delivery b b′ out a =
-        let x = across b b′ a in
-        ap₂ delivered (same-answer (g .grants) (h .grants) m b b′ x (length out)) (same-buffer (g .grants) (h .grants) m b b′ x out)
+        let both = across b b′ a in
+        ap₂ delivered (same-answer (g .grants) (h .grants) m b b′ both (length out)) (same-buffer (g .grants) (h .grants) m b b′ both out)
 
     same-read : (s : ℕ) → readAnswer g m s ≡ readAnswer h m s
     same-read s = view-read m g s ∙ ap (λ (v : View). viewRead m v s) alike ∙ sym (view-read m h s)
 
-    pub same-answers : (c : Call) → shared m c ≡ true → answerTo g c ≡ answerTo h c
+    pub same-answers : (c : Call) → shared m c ≡ true → answerTo ours g c ≡ answerTo ours h c
     unfolding shared answerTo
     same-answers (request kind n) t =
         ap coded (view-refusal m g kind n (own kind n t) ∙ ap (λ (v : View). viewRefusal v kind n) alike ∙ sym (view-refusal m h kind n (own kind n t)))
@@ -123,8 +131,8 @@ module _ (m : ℕ) where
     same-answers (count s) t = absurd (false≢true t)
     same-answers (deliver n store out) t = rw (eqb-true n m t) (same-delivery store store out (self store))
 
-    pub same-after : Fits g → Fits h → (c : Call) → shared m c ≡ true → view m (after g c) ≡ view m (after h c)
-    unfolding after
+    pub same-after : Fits g → Fits h → (c : Call) → shared m c ≡ true → view m (next ours x c .group) ≡ view m (next ours y c .group)
+    unfolding next
     same-after zg zh (request kind n) t =
         view-request m g kind n (own kind n t) ∙ ap (λ (v : View). viewRequest m v kind n) alike ∙ sym (view-request m h kind n (own kind n t))
     same-after zg zh close t = view-close m g zg ∙ ap viewClose alike ∙ sym (view-close m h zh)
@@ -133,10 +141,10 @@ module _ (m : ℕ) where
     same-after zg zh (deliver n store out) t = alike
 
 -- every group that calls reach from one that a machine holds is one that it holds
-pub after-fits : (g : Group) → Fits g → (c : Call) → Fits (after g c)
-unfolding after
-after-fits g z (request kind n) = request-fits g kind n z
-after-fits g z close = close-fits g z
-after-fits g z (read n s) = z
-after-fits g z (count s) = z
-after-fits g z (deliver n store out) = z
+pub next-fits : (r : Run Group) → Fits (r .group) → (c : Call) → Fits (next ours r c .group)
+unfolding next
+next-fits r z (request kind n) = request-fits (r .group) kind n z
+next-fits r z close = close-fits (r .group) z
+next-fits r z (read n s) = z
+next-fits r z (count s) = z
+next-fits r z (deliver n store out) = z

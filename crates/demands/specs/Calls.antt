@@ -1,20 +1,16 @@
--- Calls on one group, one after the other. A call means what its public call promises: the answers and the groups below are the definitions that
--- the contracts cite, on whatever numbers, stores and buffers a caller may hand in. A request on a group lent (`request_at`) is a request.
-use mathlib.Core.List.{List, [], _∷_}
-use Prim.Native.Nat.{ℕ}
-use lib.ListN.{length}
-use Rattle.group.specs.Close.{closeAnswer}
-use Rattle.group.specs.Count.{countAnswer}
-use Rattle.group.specs.Fresh.{freshAnswer}
-use Rattle.group.specs.Read.{readAnswer}
-use Rattle.group.specs.Request.{requestAnswer}
+-- Calls on one group, one after the other, on whatever numbers, stores and buffers a caller may hand in; and where a run of them stands. A request on
+-- a group lent (`request_at`) is a request.
+use mathlib.Core.Bool.{cond}
+use mathlib.Core.List.{List, [], _∷_, _++_}
+use Prim.Native.Nat.{ℕ, _+_}
+use lib.Dec.{eqb, ltb}
+use Rattle.rules.specs.Ranges.{groups, ticks}
+use Rattle.event.specs.Word.{wordOf}
 use Rattle.group.specs.declared.CountAnswer.{CountAnswer}
-use Rattle.group.specs.declared.Group.{Group}
 use Rattle.group.specs.declared.ReadAnswer.{ReadAnswer}
-use Rattle.store.specs.Answer.{answer, bufferAfter}
 use Rattle.store.specs.declared.Delivery.{Delivery}
-use Rattle.history.specs.Run as history
-use Rattle.book.specs.Read.{recordsIn}
+use Rattle.book.specs.Read.{ticksIn, numberIn, recordsIn}
+use Rattle.demands.specs.Gate.{Gate}
 
 -- a request of a kind and a number; a close; a read by a model of a sheet; how many models may read a sheet; a delivery to a model, with its
 -- store and its buffer
@@ -32,46 +28,49 @@ pub data Answer : Type 0 where
   counted : CountAnswer → Answer
   delivered : Delivery → List ℕ → Answer
 
-unfoldable pub answerTo : Group → Call → Answer
-answerTo g (request kind n) = coded (requestAnswer g kind n .code)
-answerTo g close = coded (closeAnswer g .code)
-answerTo g (read m s) = shown (readAnswer g m s)
-answerTo g (count s) = counted (countAnswer g s)
-answerTo g (deliver m store out) = delivered (answer (g .grants) m store (length out)) (bufferAfter (g .grants) m store out)
+-- Where a run stands: its group, and what the calls so far say of it, whatever the group's record says of itself: the number asked for, how many ticks
+-- were closed, and the words of the accepted events, in the order of their acceptance.
+pub record Run (State : Type 0) : Type 0 where
+  pub group : State
+  pub number : ℕ
+  pub closed : ℕ
+  pub events : List ℕ
 
--- the group after a call: reads, counts and deliveries take it by value and give none back
-unfoldable pub after : Group → Call → Group
-after g (request kind n) = requestAnswer g kind n .group
-after g close = closeAnswer g .group
-after g (read m s) = g
-after g (count s) = g
-after g (deliver m store out) = g
+module _ {State : Type 0} (G : Gate State) where
+  -- "It starts fresh with its number: no ticks closed, nobody in"; above 15 it is a fresh group 0
+  abbrev pub start : ℕ → Run State
+  start number = record { group = G .fresh number .group; number = cond (ltb number groups) number 0; closed = 0; events = [] }
 
-unfoldable pub groupAfter : Group → List Call → Group
-groupAfter g [] = g
-groupAfter g (c ∷ calls) = groupAfter (after g c) calls
+  -- a book's group: "T ticks closed and that group's number"; what it has accepted are the book's records
+  abbrev pub startBook : List ℕ → List ℕ → Run State
+  startBook b list = record { group = G .readBook b list .group; number = numberIn b; closed = ticksIn b; events = recordsIn b }
 
--- "It starts fresh with its number": above 15 it is a fresh group 0
-abbrev pub fresh : ℕ → Group
-fresh number = freshAnswer number .group
+  unfoldable pub answerTo : State → Call → Answer
+  answerTo g (request kind n) = coded (G .request g kind n .code)
+  answerTo g close = coded (G .close g .code)
+  answerTo g (read m s) = shown (G .read g m s)
+  answerTo g (count s) = counted (G .count g s)
+  answerTo g (deliver m store out) = delivered (G .deliver g m store out) (G .delivered g m store out)
 
--- the calls that can move a group, as the history of a group has them
-unfoldable pub moving : List Call → List history.Call
-moving [] = []
-moving (request kind n ∷ calls) = history.request kind n ∷ moving calls
-moving (close ∷ calls) = history.close ∷ moving calls
-moving (read m s ∷ calls) = moving calls
-moving (count s ∷ calls) = moving calls
-moving (deliver m store out ∷ calls) = moving calls
+  -- after a call. "A request belongs to the open tick, which is closed ticks + 1", and is accepted when it isn't refused. A close closes one tick more,
+  -- up to 1,000,000. The others take the group by value and give none back.
+  unfoldable pub next : Run State → Call → Run State
+  next r (request kind n) = record {
+    group = G .request (r .group) kind n .group;
+    number = r .number;
+    closed = r .closed;
+    events = cond (eqb (G .request (r .group) kind n .code) 0) (r .events ++ (wordOf (r .closed + 1) kind n ∷ [])) (r .events);
+  }
+  next r close = record {
+    group = G .close (r .group) .group;
+    number = r .number;
+    closed = cond (ltb (r .closed) ticks) (r .closed + 1) (r .closed);
+    events = r .events;
+  }
+  next r (read m s) = r
+  next r (count s) = r
+  next r (deliver m store out) = r
 
--- The words of the events that have been accepted after these calls, in the order of their acceptance: on a group that had accepted some before,
--- and on a fresh one, which had none.
-abbrev pub acceptedFrom : history.Reached → List Call → List ℕ
-acceptedFrom before calls = history.run (moving calls) before .events
-
-abbrev pub accepted : ℕ → List Call → List ℕ
-accepted number calls = acceptedFrom (history.fresh number) calls
-
--- a group that a book was read into: the events that it has accepted are the book's records
-abbrev pub readFrom : List ℕ → Group → history.Reached
-readFrom b g = record { group = g; events = recordsIn b }
+  unfoldable pub reach : Run State → List Call → Run State
+  reach r [] = r
+  reach r (c ∷ calls) = reach (next r c) calls

@@ -1,4 +1,5 @@
--- What demand 2 says of one group and the events that it has accepted.
+-- What demand 2 says of a run, wherever it stands. Everything is said of the calls' own record of the run: how many ticks it closed, which events it
+-- accepted. Nothing is read off the group.
 use mathlib.Core.Path.{_≡_}
 use mathlib.Core.List.{List}
 use mathlib.Core.Logic.{_↔_}
@@ -14,40 +15,44 @@ use Rattle.strip.specs.declared.Side.{Side}
 use Rattle.strip.specs.declared.Side.the-variants.{Model, Sheet}
 use Rattle.strip.specs.Good.{range, Good}
 use Rattle.strip.specs.History.{historyOf}
-use Rattle.judge.specs.Judge.{judgedBy}
-use Rattle.group.specs.Count.{countAnswer}
-use Rattle.group.specs.Read.{readAnswer}
-use Rattle.group.specs.Request.{requestAnswer}
-use Rattle.group.specs.declared.Group.{Group}
-use Rattle.group.specs.declared.ReadAnswer.the-variants.{Granted}
-use Rattle.store.specs.Answer.{answer, bufferAfter}
+use Rattle.group.specs.declared.ReadAnswer.the-variants.{Granted, Denied}
 use Rattle.store.specs.declared.Delivery.the-variants.{Delivered}
 use Rattle.history.specs.Strips.{stripOf}
 use Rattle.history.specs.WellFormed.{WellFormed}
+use Rattle.demands.specs.Calls.{Run}
 use Rattle.demands.specs.Delivered.{Holds}
+use Rattle.demands.specs.Gate.{Gate}
 
--- what the accepted events ws of the ticks up to t tell of a model, and of a sheet
-abbrev pub model : List ℕ → ℕ → ℕ → History
-model ws t m = historyOf (stripOf Model m t ws)
+module _ {State : Type 0} (r : Run State) where
+  -- the strip of a carrier's accepted events of closed ticks
+  abbrev pub strip : Side → ℕ → List ℕ
+  strip side n = stripOf side n (r .closed) (r .events)
 
-abbrev pub sheet : List ℕ → ℕ → ℕ → History
-sheet ws t s = historyOf (stripOf Sheet s t ws)
+  -- what they tell of a model, and of a sheet
+  abbrev pub model : ℕ → History
+  model m = historyOf (strip Model m)
 
--- the formula for a model and a sheet, over the accepted events ws of t closed ticks
-abbrev pub Granting : List ℕ → ℕ → ℕ → ℕ → Type 0
-Granting ws t m s = Grant (model ws t m) (sheet ws t s) t
+  abbrev pub sheet : ℕ → History
+  sheet s = historyOf (strip Sheet s)
 
-pub record Gated (g : Group) (ws : List ℕ) : Type 0 where
-  -- the running gate
-  pub read : (m s : ℕ) → m < models → s < sheets → (readAnswer g m s ≡ Granted) ↔ Granting ws (g .closed) m s
-  pub count : (s : ℕ) → s < sheets
-      → countAnswer g s ≡ record { code = 0; count = howMany (λ m. grant (model ws (g .closed) m) (sheet ws (g .closed) s) (g .closed)) models }
+  -- the formula for a model and a sheet, over the accepted events of closed ticks
+  abbrev pub Granting : ℕ → ℕ → Type 0
+  Granting m s = Grant (model m) (sheet s) (r .closed)
+
+pub record Gated {State : Type 0} (G : Gate State) (r : Run State) : Type 0 where
+  -- the group's record: the closed ticks are the closes, and the number is the one asked for
+  pub closed : G .closed (r .group) ≡ r .closed
+  pub number : G .number (r .group) ≡ r .number
+  -- the running gate: granted is granted, and denied is denied
+  pub read : (m s : ℕ) → m < models → s < sheets → (G .read (r .group) m s ≡ Granted) ↔ Granting r m s
+  pub denied : (m s : ℕ) → m < models → s < sheets → (G .read (r .group) m s ≡ Denied) ↔ (Granting r m s → ⊥)
+  pub count : (s : ℕ) → s < sheets → G .count (r .group) s ≡ record { code = 0; count = howMany (λ m. grant (model r m) (sheet r s) (r .closed)) models }
   -- the judge, asked for the history
-  pub good : (side : Side) (n : ℕ) → n < range side → Good side (g .closed) (stripOf side n (g .closed) ws)
-  pub judge : (m s : ℕ) → m < models → s < sheets → length (stripOf Model m (g .closed) ws) ≤ events → length (stripOf Sheet s (g .closed) ws) ≤ events
-      → ((x : Moment) × (judgedBy (stripOf Model m (g .closed) ws) (stripOf Sheet s (g .closed) ws) (g .closed) ≡ Judges x)) ↔ Granting ws (g .closed) m s
+  pub good : (side : Side) (n : ℕ) → n < range side → Good side (r .closed) (strip r side n)
+  pub judge : (m s : ℕ) → m < models → s < sheets → length (strip r Model m) ≤ events → length (strip r Sheet s) ≤ events
+      → ((x : Moment) × (G .judge (strip r Model m) (strip r Sheet s) (r .closed) ≡ Judges x)) ↔ Granting r m s
   -- an event is accepted exactly when it is well-formed
-  pub accepts : (kind n : ℕ) → (requestAnswer g kind n .code ≡ 0) ↔ WellFormed (record { group = g; events = ws }) kind n
+  pub accepts : (kind n : ℕ) → (G .request (r .group) kind n .code ≡ 0) ↔ WellFormed (r .closed) (r .events) kind n
   -- a delivery
-  pub delivery : (m : ℕ) → m < models → (store out : List ℕ) (n : ℕ) → answer (g .grants) m store (length out) ≡ Delivered n
-      → Holds (Granting ws (g .closed) m) store out n (bufferAfter (g .grants) m store out)
+  pub delivery : (m : ℕ) → m < models → (store out : List ℕ) (n : ℕ) → G .deliver (r .group) m store out ≡ Delivered n
+      → Holds (Granting r m) store out n (G .delivered (r .group) m store out)

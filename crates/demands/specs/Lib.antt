@@ -1,6 +1,11 @@
 pub mod Alike
 pub mod Calls
 pub mod Delivered
+pub mod Gate
 pub mod Gated
 pub mod Lines
+pub mod One
+pub mod Ours
 pub mod Refusals
+pub mod Three
+pub mod Two

@@ -46,6 +46,10 @@ pub record Met (lines : List Line) (i : ℕ) : Type 0 where
   pub met : getD lines i unmet .met ≡ true
   pub earlier : (j : ℕ) → j < i → getD lines j unmet .met ≡ false
 
+-- no line is met
+abbrev pub NoneMet : List Line → Type 0
+NoneMet lines = (i : ℕ) → i < length lines → getD lines i unmet .met ≡ false
+
 -- What demand 1 says of a call with these lines, when it refuses so (`none` where it answers): the refusal is that of the first line met, and it
 -- leaves things as `Unchanged` says.
 pub record Refuses (lines : List Line) (refusal : Refusal) (Unchanged : Type 0) : Type 0 where

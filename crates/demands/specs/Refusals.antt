@@ -22,7 +22,7 @@ use Rattle.group.specs.Marks.{carrierMarked, carrierIn}
 use Rattle.group.specs.declared.Group.{Group}
 use Rattle.store.specs.Delivery.{grantedSheets, deliveryLength}
 use Rattle.store.specs.Entry.{goodEntry}
-use Rattle.store.specs.Granted.{granted}
+use Rattle.bits.specs.Granted.{granted}
 use Rattle.store.specs.Store.{sheetCount, goodStore}
 use Rattle.store.specs.declared.Delivery.{Delivery}
 use Rattle.store.specs.declared.Delivery.the-variants as delivery

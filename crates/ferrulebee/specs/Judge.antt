@@ -9,11 +9,11 @@ use Rattle.rules.specs.Refusals.{lateNow, longModel, longSheet}
 use Rattle.wire.specs.Words.{wordsIn}
 use Rattle.formula.specs.declared.Verdict.{Verdict}
 use Rattle.formula.specs.declared.Verdict.the-variants.{Refused}
-use Rattle.formula.specs.Answer.{numberOf, valueOf}
+use Rattle.formula.specs.Answer.{verdictNumber, verdictValue}
 use Rattle.judge.specs.Judge.{judgedBy}
 
 abbrev pub packed : Verdict → ℕ
-packed v = numberOf v * 2 ^ 32 + valueOf v
+packed v = verdictNumber v * 2 ^ 32 + verdictValue v
 
 -- "longer than 4,096 words, or from C not whole words" fails this, by the number of bytes
 abbrev pub wholeStrip : ℕ → Bool

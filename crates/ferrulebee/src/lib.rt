@@ -9,7 +9,7 @@ mod spans;
 ghost use mathlib.Core.Path.{_≡_};
 ghost use Prim.Native.Nat.{_+_, _*_, _/_, _^_, _<_, _≤_};
 ghost use lib.ListN.{length};
-ghost use Rattle.formula.specs.Answer.{numberOf, valueOf};
+ghost use Rattle.formula.specs.Answer.{verdictNumber, verdictValue};
 ghost use Rattle.rules.specs.Ranges.{events};
 ghost use Rattle.wire.specs.Words.{wordsIn};
 ghost use Rattle.judge.specs.Judge.{judgedBy};

@@ -17,7 +17,7 @@ use Rattle.formula.specs.declared.Moment.the-variants.{Add, Join}
 use Rattle.formula.specs.declared.Cause.the-variants.{None, StrictLeave, StrictRemove}
 use Rattle.formula.specs.Formula.{History, SL, ByAdd, Moment, Strict, Grant}
 use Rattle.formula.specs.Ticks.{byAdd, moment, strict, grant}
-use Rattle.formula.specs.Verdict.{latest, earliest, granted, denied, verdict}
+use Rattle.formula.specs.Verdict.{latest, earliest, grantedAt, denied, verdict}
 use Rattle.formula.specs.Judged.{Latest, Earliest, Judged, by-add, by-join, none, strict-leave, strict-remove}
 use Rattle.formula.proofs.Says.{Says, says-eq, says-not}
 use Rattle.formula.proofs.Meaning.{means-add, means-moment, means-strict, means-grant}
@@ -121,7 +121,7 @@ module _ (model sheet : History) where
 
   -- the verdict from what is known of the grant, the latest moment and the earliest strict event after it
   module _ (now t : ℕ) where
-    is-granted : Grant model sheet now → latest model sheet now ≡ t → verdict model sheet now ≡ granted model sheet t
+    is-granted : Grant model sheet now → latest model sheet now ≡ t → verdict model sheet now ≡ grantedAt model sheet t
     unfolding verdict
     is-granted g e = rw (means-grant model sheet now .1 g, e)
 
@@ -134,8 +134,8 @@ module _ (model sheet : History) where
   unfolding verdict
   is-none now g l = rw (unsaid (means-grant model sheet now) g, l)
 
-  named : (t : ℕ) (b : Bool) → byAdd model sheet t ≡ b → granted model sheet t ≡ cond b (Granted (Add t)) (Granted (Join t))
-  unfolding granted
+  named : (t : ℕ) (b : Bool) → byAdd model sheet t ≡ b → grantedAt model sheet t ≡ cond b (Granted (Add t)) (Granted (Join t))
+  unfolding grantedAt
   named t b e = rw e
 
   caused : (e : ℕ) (b : Bool) → eqb (model e) kinds.SL ≡ b → denied model sheet e ≡ cond b (Denied StrictLeave) (Denied StrictRemove)

@@ -6,16 +6,16 @@ use Rattle.formula.specs.declared.Moment.the-variants.{Add, Join}
 use Rattle.formula.specs.declared.Cause.the-variants.{None, StrictLeave, StrictRemove}
 
 -- "101 by add and 102 by join with the tick; 103 none, 104 strict leave, 105 strict remove with 0; a refusal's number with its place"
-abbrev pub numberOf : Verdict → ℕ
-numberOf (Granted (Add t)) = 101
-numberOf (Granted (Join t)) = 102
-numberOf (Denied None) = 103
-numberOf (Denied StrictLeave) = 104
-numberOf (Denied StrictRemove) = 105
-numberOf (Refused refusal place) = refusal
+abbrev pub verdictNumber : Verdict → ℕ
+verdictNumber (Granted (Add t)) = 101
+verdictNumber (Granted (Join t)) = 102
+verdictNumber (Denied None) = 103
+verdictNumber (Denied StrictLeave) = 104
+verdictNumber (Denied StrictRemove) = 105
+verdictNumber (Refused refusal place) = refusal
 
-abbrev pub valueOf : Verdict → ℕ
-valueOf (Granted (Add t)) = t
-valueOf (Granted (Join t)) = t
-valueOf (Denied cause) = 0
-valueOf (Refused refusal place) = place
+abbrev pub verdictValue : Verdict → ℕ
+verdictValue (Granted (Add t)) = t
+verdictValue (Granted (Join t)) = t
+verdictValue (Denied cause) = 0
+verdictValue (Refused refusal place) = place

@@ -22,8 +22,8 @@ module _ (model sheet : History) where
   earliest after now = first (λ k. ltb after k && strict model sheet k) (suc now)
 
   -- "Where one tick is both, it is named by add."
-  unfoldable pub granted : ℕ → Verdict
-  granted t = cond (byAdd model sheet t) (Granted (Add t)) (Granted (Join t))
+  unfoldable pub grantedAt : ℕ → Verdict
+  grantedAt t = cond (byAdd model sheet t) (Granted (Add t)) (Granted (Join t))
 
   -- "The cause is the earliest SL or SR after the latest moment; both in that tick: strict leave."
   unfoldable pub denied : ℕ → Verdict
@@ -32,5 +32,5 @@ module _ (model sheet : History) where
   -- "The latest moment is given. Denied has a cause: none (no moment ever), strict leave, or strict remove."
   unfoldable pub verdict : ℕ → Verdict
   verdict now =
-      cond (grant model sheet now) (granted (latest now))
+      cond (grant model sheet now) (grantedAt (latest now))
       (cond (eqb (latest now) 0) (Denied None) (denied (earliest (latest now) now)))

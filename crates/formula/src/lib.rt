@@ -1,6 +1,6 @@
 // What the judge answers, and document 01's number and value for each case.
 ghost use mathlib.Core.Path.{_≡_};
-ghost use Rattle.formula.specs.Answer.{numberOf, valueOf};
+ghost use Rattle.formula.specs.Answer.{verdictNumber, verdictValue};
 
 // A tick where a bracket of the formula holds.
 pub enum Moment {
@@ -23,7 +23,7 @@ pub enum Verdict {
 }
 
 pub fn number(v: Verdict) -> u32
-    ensures { λ r. ⌜ r ≡ numberOf v ⌝ }
+    ensures { λ r. ⌜ r ≡ verdictNumber v ⌝ }
 {
     match v {
         Verdict::Granted(moment) => match moment {
@@ -40,7 +40,7 @@ pub fn number(v: Verdict) -> u32
 }
 
 pub fn value(v: Verdict) -> u32
-    ensures { λ r. ⌜ r ≡ valueOf v ⌝ }
+    ensures { λ r. ⌜ r ≡ verdictValue v ⌝ }
 {
     match v {
         Verdict::Granted(moment) => match moment {

@@ -8,7 +8,7 @@ use borrow.Author.Tests.{ltb-false, leb-false, le-ltb, lt-leb}
 use Rattle.rules.specs.Kinds.{LR}
 use Rattle.rules.specs.Ranges.{ticks}
 use Rattle.rules.specs.Refusals.{badKind, badNumber, noTickLeft, secondEvent, alreadyIn, notIn}
-use Rattle.group.specs.Accepted.{Accepted}
+use Rattle.group.specs.Accepted.{RequestAccepted}
 use Rattle.group.specs.Carrier.{carriers, entering}
 use Rattle.group.specs.Marks.{carrierMarked, carrierIn}
 use Rattle.group.specs.Request.{requestRefusal}
@@ -47,7 +47,7 @@ enters-last true = refl
 enters-last false = refl
 
 module _ (g : Group) (kind n : ℕ) where
-  pub accepted : requestRefusal g kind n ≡ 0 → Accepted g kind n
+  pub accepted : requestRefusal g kind n ≡ 0 → RequestAccepted g kind n
   unfolding requestRefusal
   accepted h =
       let p = passed (ltb LR kind) (leb (carriers kind) n) (leb ticks (g .closed)) (carrierMarked g kind n) (entering kind) (carrierIn g kind n) h in
@@ -59,7 +59,7 @@ module _ (g : Group) (kind n : ℕ) where
         alternates = p .alternates;
       }
 
-  pub not-refused : Accepted g kind n → requestRefusal g kind n ≡ 0
+  pub not-refused : RequestAccepted g kind n → requestRefusal g kind n ≡ 0
   unfolding requestRefusal
   not-refused a =
       simp (le-ltb _ _ (a .known), lt-leb _ _ (a .ranged), lt-leb _ _ (a .tick), a .first, a .alternates) (enters-last (entering kind))

@@ -20,7 +20,7 @@ use Rattle.group.specs.Carrier.{sheetWords}
 use Rattle.group.specs.Close.{closedMembers, removes, adds, closedAdded, closedLiberal, closedWord, closedWords, closedGroup, closeAnswer}
 use Rattle.group.specs.Fits.{Fits}
 use Rattle.group.specs.Marks.{mark, modelIn, sheetIn, sheetInByLA}
-use Rattle.group.specs.Read.{granted}
+use Rattle.bits.specs.Granted.{granted}
 use Rattle.group.specs.declared.Group.{Group}
 
 -- ---- a word
@@ -77,8 +77,8 @@ module _ (g : Group) (z : Fits g) where
 
   -- the grant: kept by "no SL and no SR"; made by an add while the model is in, or by an LJ while the sheet is in by LA
   pub closed-granted : (m s : ℕ) → s < sheets
-      → granted (closedGroup g) m s
-      ≡ not (mark g SR s) && (granted g m s && not (mark g SL m))
+      → granted (closedGroup g .grants) m s
+      ≡ not (mark g SR s) && (granted (g .grants) m s && not (mark g SL m))
       || (mark g SA s || mark g LA s) && modelIn (closedGroup g) m
       || sheetInByLA (closedGroup g) s && mark g LJ m
   unfolding closedGroup closedWords bitIn

@@ -9,7 +9,7 @@ use Rattle.bits.proofs.Set.{getD-none, has-none}
 use Rattle.group.specs.Carrier.{sheetWords}
 use Rattle.group.specs.Fresh.{freshGroup}
 use Rattle.group.specs.Marks.{modelIn, sheetIn, sheetInByLA}
-use Rattle.group.specs.Read.{granted}
+use Rattle.bits.specs.Granted.{granted}
 
 module _ (n : ℕ) where
   pub fresh-modelIn : (m : ℕ) → modelIn (freshGroup n) m ≡ false
@@ -24,6 +24,6 @@ module _ (n : ℕ) where
   unfolding freshGroup
   fresh-sheetInByLA s = has-none sheetWords s
 
-  pub fresh-granted : (m s : ℕ) → granted (freshGroup n) m s ≡ false
+  pub fresh-granted : (m s : ℕ) → granted (freshGroup n .grants) m s ≡ false
   unfolding freshGroup bitIn
   fresh-granted m s = ap (λ (w : ℕ). bit w m) (getD-none sheets s) ∙ bit-zero m

@@ -15,7 +15,7 @@ use Rattle.bits.specs.Bit.{width, bit}
 use Rattle.bits.specs.Set.{has}
 use Rattle.bits.proofs.Bit.{bit-with}
 use Rattle.bits.proofs.Set.{has-with}
-use Rattle.group.specs.Accepted.{Accepted}
+use Rattle.group.specs.Accepted.{RequestAccepted}
 use Rattle.group.proofs.Cases.{each-kind}
 use Rattle.group.specs.Carrier.{carriers, sheetWords}
 use Rattle.group.specs.Fits.{Sized, Fits}
@@ -64,7 +64,7 @@ module _ (g : Group) (kind n : ℕ) where
   -- ---- the answer
 
   -- what holds of the group as it was, and of the marked one where the request is accepted, holds of the answer's
-  pub request-cases : (P : Group → Type 0) → P g → (Accepted g kind n → P (markedGroup g kind n)) → P (requestAnswer g kind n .group)
+  pub request-cases : (P : Group → Type 0) → P g → (RequestAccepted g kind n → P (markedGroup g kind n)) → P (requestAnswer g kind n .group)
   unfolding requestAnswer
   request-cases P was new = ⊎-elim
       (λ (t : eqb (requestRefusal g kind n) 0 ≡ true). simp t (new (accepted g kind n (eqb-true _ _ t))))

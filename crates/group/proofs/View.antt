@@ -20,7 +20,8 @@ use Rattle.bits.proofs.Bit.{bit-zero}
 use Rattle.group.specs.Carrier.{ofModel, sheetWords}
 use Rattle.group.specs.Close.{closedAdded, closedLiberal, closedGroup, closeAnswer}
 use Rattle.group.specs.Fits.{Fits}
-use Rattle.group.specs.Read.{granted, readAnswer}
+use Rattle.bits.specs.Granted.{granted}
+use Rattle.group.specs.Read.{readAnswer}
 use Rattle.group.specs.Request.{requestRefusal, markedGroup, requestAnswer}
 use Rattle.group.specs.View.{View, view, viewRefusal, markedView, viewRequest, viewGranted, closedView, viewClose, viewRead}
 use Rattle.group.specs.declared.Group.{Group}
@@ -80,16 +81,16 @@ view-request m g kind n own =
 -- ---- close
 
 module _ (m : ℕ) (g : Group) where
-  granted-seen : (s : ℕ) → s < sheets → getD (view m g .grants) s false ≡ granted g m s
+  granted-seen : (s : ℕ) → s < sheets → getD (view m g .grants) s false ≡ granted (g .grants) m s
   unfolding view
-  granted-seen s h = getD-table sheets (λ s. granted g m s) s false h
+  granted-seen s h = getD-table sheets (λ s. granted (g .grants) m s) s false h
 
   pub view-closed : Fits g → view m (closedGroup g) ≡ closedView (view m g)
   unfolding view closedView closedGroup closedAdded closedLiberal
   view-closed z =
-      let seen : (s : ℕ) → s < sheets → granted (closedGroup g) m s ≡ viewGranted (view m g) s =
+      let seen : (s : ℕ) → s < sheets → granted (closedGroup g .grants) m s ≡ viewGranted (view m g) s =
       λ s h. closed-granted g z m s h ∙ simp (closed-modelIn g z m, granted-seen s h) in
-      let words : table sheets (λ s. granted (closedGroup g) m s) ≡ table sheets (viewGranted (view m g)) = table-ext sheets _ _ seen in
+      let words : table sheets (λ s. granted (closedGroup g .grants) m s) ≡ table sheets (viewGranted (view m g)) = table-ext sheets _ _ seen in
       λ i. record {
         number = g .number;
         closed = g .closed + 1;

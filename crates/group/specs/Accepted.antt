@@ -8,7 +8,7 @@ use Rattle.group.specs.Carrier.{carriers, entering}
 use Rattle.group.specs.Marks.{carrierMarked, carrierIn}
 use Rattle.group.specs.declared.Group.{Group}
 
-pub record Accepted (g : Group) (kind n : ℕ) : Type 0 where
+pub record RequestAccepted (g : Group) (kind n : ℕ) : Type 0 where
   -- a kind and a number in range, and a tick left
   pub known : kind ≤ LR
   pub ranged : n < carriers kind

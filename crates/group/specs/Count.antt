@@ -5,13 +5,13 @@ use lib.Dec.{leb}
 use Rattle.base.specs.HowMany.{howMany}
 use Rattle.rules.specs.Ranges.{models, sheets}
 use Rattle.rules.specs.Refusals.{badNumber}
-use Rattle.group.specs.Read.{granted}
+use Rattle.bits.specs.Granted.{granted}
 use Rattle.group.specs.declared.Group.{Group}
 use Rattle.group.specs.declared.CountAnswer.{CountAnswer}
 
 -- "how many models may read a sheet"
 unfoldable pub modelsGranted : Group → ℕ → ℕ
-modelsGranted g s = howMany (λ m. granted g m s) models
+modelsGranted g s = howMany (λ m. granted (g .grants) m s) models
 
 -- "read and count of models 2"
 unfoldable pub countAnswer : Group → ℕ → CountAnswer

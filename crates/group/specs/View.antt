@@ -12,7 +12,7 @@ use Rattle.rules.specs.Refusals.{badKind, badNumber, noTickLeft, secondEvent, a
 use Rattle.bits.specs.Set.{none, has, either, after}
 use Rattle.group.specs.Carrier.{ofModel, carriers, entering, sheetWords}
 use Rattle.group.specs.Marks.{mark, modelIn}
-use Rattle.group.specs.Read.{granted}
+use Rattle.bits.specs.Granted.{granted}
 use Rattle.group.specs.Request.{markedSet}
 use Rattle.group.specs.declared.Group.{Group}
 use Rattle.group.specs.declared.ReadAnswer.{ReadAnswer}
@@ -50,7 +50,7 @@ view m g = record {
   la = g .la;
   sr = g .sr;
   lr = g .lr;
-  grants = table sheets (λ s. granted g m s);
+  grants = table sheets (λ s. granted (g .grants) m s);
 }
 
 -- ---- a request, as model m sees it

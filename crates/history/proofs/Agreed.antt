@@ -24,13 +24,13 @@ use Rattle.strip.specs.declared.Side.the-variants.{Model, Sheet}
 use Rattle.strip.specs.Good.{range}
 use Rattle.strip.specs.History.{historyOf}
 use Rattle.strip.proofs.Append.{each-more}
-use Rattle.group.specs.Accepted.{Accepted}
+use Rattle.group.specs.Accepted.{RequestAccepted}
 use Rattle.group.specs.Carrier.{carriers}
 use Rattle.group.specs.Close.{closedGroup}
 use Rattle.group.specs.Fits.{Fits}
 use Rattle.group.specs.Fresh.{freshGroup, freshAnswer}
 use Rattle.group.specs.Marks.{modelIn, sheetInByLA}
-use Rattle.group.specs.Read.{granted}
+use Rattle.bits.specs.Granted.{granted}
 use Rattle.group.specs.Request.{requestRefusal, markedGroup}
 use Rattle.group.specs.declared.Group.{Group}
 use Rattle.group.proofs.Accepted.{accepted}
@@ -40,7 +40,7 @@ use Rattle.group.proofs.Fits.{fresh-fits, marked-fits, closed-fits}
 use Rattle.group.proofs.Fresh.{fresh-modelIn, fresh-sheetInByLA, fresh-granted}
 use Rattle.group.proofs.Quiet.{fresh-unmarked}
 use Rattle.group.proofs.Request.{request-code, request-refused, request-accepted}
-use Rattle.history.specs.Run.{Call, request, close, Reached, step, run, fresh, reached}
+use Rattle.history.specs.Run.{Move, request, close, Reached, step, run, fresh, reached}
 use Rattle.history.specs.Strips.{stripOf}
 use Rattle.history.proofs.Strips.{strip-later}
 use Rattle.history.proofs.Sides.{stays, in-fresh, in-closed}
@@ -66,7 +66,7 @@ pub record Agreed (g : Group) (t : ℕ) (ws : List ℕ) : Type 0 where
   pub carried : (side : Side) (n : ℕ) → n < range side → Carried g t ws side n
   pub insides : (m : ℕ) → m < models → modelIn g m ≡ inside (told Model m t ws) t
   pub liberals : (s : ℕ) → s < sheets → sheetInByLA g s ≡ liberal (told Sheet s t ws) t
-  pub grants : (m s : ℕ) → m < models → s < sheets → granted g m s ≡ grant (told Model m t ws) (told Sheet s t ws) t
+  pub grants : (m s : ℕ) → m < models → s < sheets → granted (g .grants) m s ≡ grant (told Model m t ws) (told Sheet s t ws) t
 
 -- ---- fresh
 
@@ -85,7 +85,7 @@ fresh-agreed k h = record {
 
 -- ---- a request
 
-module _ (g : Group) (t : ℕ) (ws : List ℕ) (a : Agreed g t ws) (kind n : ℕ) (r : Accepted g kind n) where
+module _ (g : Group) (t : ℕ) (ws : List ℕ) (a : Agreed g t ws) (kind n : ℕ) (r : RequestAccepted g kind n) where
   abbrev new : ℕ
   new = wordOf (suc t) kind n
 
@@ -148,7 +148,7 @@ module _ (g : Group) (t : ℕ) (ws : List ℕ) (a : Agreed g t ws) where
       stays (sheetInByLA g s) (isRemove (S (suc t))) (eqb (S (suc t)) LA)
       ∙ rw (a .liberals s l, liberal-moves S t, liberal-same S (told Sheet s t ws) t (carried-before g t ws Sheet s l c)))
 
-  closed-grant : (m s : ℕ) → m < models → s < sheets → granted (closedGroup g) m s ≡ grant (told Model m (suc t) ws) (told Sheet s (suc t) ws) (suc t)
+  closed-grant : (m s : ℕ) → m < models → s < sheets → granted (closedGroup g .grants) m s ≡ grant (told Model m (suc t) ws) (told Sheet s (suc t) ws) (suc t)
   unfolding byAdd byJoin
   closed-grant m s l b =
       let cm = a .carried Model m l in
@@ -219,12 +219,12 @@ unfolding step
 close-agrees r a = close-cases (r .group) (λ h. Agreed h (h .closed) (r .events)) a
     (λ l. own-tick (closedGroup (r .group)) (suc (r .group .closed)) (r .events) (closed-agreed (r .group) (r .group .closed) (r .events) a l))
 
-pub run-agrees : (calls : List Call) (r : Reached) → Agrees r → Agrees (run calls r)
+pub run-agrees : (calls : List Move) (r : Reached) → Agrees r → Agrees (run calls r)
 unfolding run
 run-agrees [] r a = a
 run-agrees (request kind n ∷ calls) r a = run-agrees calls (step (request kind n) r) (request-agrees r kind n a)
 run-agrees (close ∷ calls) r a = run-agrees calls (step close r) (close-agrees r a)
 
 -- every group reached agrees with the events that it accepted
-pub reached-agrees : (number : ℕ) (calls : List Call) → Agrees (reached number calls)
+pub reached-agrees : (number : ℕ) (calls : List Move) → Agrees (reached number calls)
 reached-agrees number calls = run-agrees calls (fresh number) (fresh-agrees number)

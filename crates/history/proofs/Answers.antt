@@ -9,7 +9,8 @@ use Rattle.base.proofs.Truth.{either}
 use Rattle.rules.specs.Ranges.{models, sheets}
 use Rattle.strip.specs.Good.{range}
 use Rattle.group.specs.Carrier.{ofModel, carriers}
-use Rattle.group.specs.Read.{granted, readAnswer}
+use Rattle.bits.specs.Granted.{granted}
+use Rattle.group.specs.Read.{readAnswer}
 use Rattle.group.specs.Request.{requestRefusal}
 use Rattle.group.specs.declared.Group.{Group}
 use Rattle.group.specs.declared.ReadAnswer.the-variants.{Granted, Denied}
@@ -25,9 +26,9 @@ granted-says : (b : Bool) → (cond b Granted Denied ≡ Granted) ↔ (b ≡ tru
 granted-says true = (λ e. refl, λ e. refl)
 granted-says false = (λ e. absurd (true≢false (cc e)), λ e. absurd (true≢false (cc e)))
 
-pub read-granted : (g : Group) (m s : ℕ) → m < models → s < sheets → (readAnswer g m s ≡ Granted) ↔ (granted g m s ≡ true)
+pub read-granted : (g : Group) (m s : ℕ) → m < models → s < sheets → (readAnswer g m s ≡ Granted) ↔ (granted (g .grants) m s ≡ true)
 unfolding readAnswer
-read-granted g m s l b = simp (lt-leb _ _ l, lt-leb _ _ b) (granted-says (granted g m s))
+read-granted g m s l b = simp (lt-leb _ _ l, lt-leb _ _ b) (granted-says (granted (g .grants) m s))
 
 -- the side of a kind has the kind
 own-side : (kind : ℕ) → ofSide (sideOf kind) kind ≡ true
@@ -41,7 +42,7 @@ module _ (r : Reached) (a : Agrees r) (kind n : ℕ) where
   in-range h = rw (carriers-range (sideOf kind) kind (own-side kind)) at h
 
   -- a request is accepted exactly when its event is well-formed
-  pub accepts : (requestRefusal (r .group) kind n ≡ 0) ↔ WellFormed r kind n
+  pub accepts : (requestRefusal (r .group) kind n ≡ 0) ↔ WellFormed (r .group .closed) (r .events) kind n
   accepts = (
     λ e.
         let p = accepted (r .group) kind n e in

@@ -22,18 +22,19 @@ use Rattle.strip.specs.History.{historyOf}
 use Rattle.judge.specs.Judge.{judgedBy}
 use Rattle.judge.proofs.Promise.{judge-grants}
 use Rattle.group.specs.Count.{modelsGranted, countAnswer}
-use Rattle.group.specs.Read.{granted, readAnswer}
+use Rattle.bits.specs.Granted.{granted}
+use Rattle.group.specs.Read.{readAnswer}
 use Rattle.group.specs.Request.{requestRefusal}
 use Rattle.group.specs.declared.Group.{Group}
 use Rattle.group.specs.declared.ReadAnswer.the-variants.{Granted}
-use Rattle.history.specs.Run.{Call, openTick, reached}
+use Rattle.history.specs.Run.{Move, openTick, reached}
 use Rattle.history.specs.Strips.{stripOf}
 use Rattle.history.specs.WellFormed.{WellFormed}
 use Rattle.history.proofs.Agreed.{Ranged, reached-agrees}
 use Rattle.history.proofs.Answers.{read-granted, accepts}
 use Rattle.history.proofs.Carried.{carried-good}
 
-module _ (number : ℕ) (calls : List Call) where
+module _ (number : ℕ) (calls : List Move) where
   -- the group that the calls reach, its closed ticks, and of any carrier the strip of its accepted events up to a tick
   abbrev pub gate : Group
   gate = reached number calls .group
@@ -54,7 +55,7 @@ module _ (number : ℕ) (calls : List Call) where
   -- ---- 1. The gate is the published formula.
 
   -- A model is granted a sheet exactly when the formula holds of their accepted events, as of the last close.
-  pub gate-is-formula : (m s : ℕ) → m < models → s < sheets → (granted gate m s ≡ true) ↔ Grant (model m) (sheet s) now
+  pub gate-is-formula : (m s : ℕ) → m < models → s < sheets → (granted (gate .grants) m s ≡ true) ↔ Grant (model m) (sheet s) now
   gate-is-formula m s l b =
       let e = reached-agrees number calls .grants m s l b in
       let says = means-grant (model m) (sheet s) now in
@@ -98,7 +99,7 @@ module _ (number : ℕ) (calls : List Call) where
 
   -- Asked for the two strips at the last close, the judge grants exactly what the gate grants.
   pub judge-agrees : (m s : ℕ) → m < models → s < sheets → length (strip Model m now) ≤ events → length (strip Sheet s now) ≤ events
-      → ((x : Moment) × (judgedBy (strip Model m now) (strip Sheet s now) now ≡ Judged x)) ↔ (granted gate m s ≡ true)
+      → ((x : Moment) × (judgedBy (strip Model m now) (strip Sheet s now) now ≡ Judged x)) ↔ (granted (gate .grants) m s ≡ true)
   judge-agrees m s l b short-m short-s =
       let judge = judge-grants (strip Model m now) (strip Sheet s now) now
       (record { tick = now-bounded; short-m = short-m; short-s = short-s; good-m = closed-good Model m l; good-s = closed-good Sheet s b }) in
@@ -108,5 +109,5 @@ module _ (number : ℕ) (calls : List Call) where
   -- ---- 4. Every well-formed event is accepted.
 
   -- A request is accepted exactly when its event is well-formed.
-  pub accepts-well-formed : (kind n : ℕ) → (requestRefusal gate kind n ≡ 0) ↔ WellFormed (reached number calls) kind n
+  pub accepts-well-formed : (kind n : ℕ) → (requestRefusal gate kind n ≡ 0) ↔ WellFormed now (reached number calls .events) kind n
   accepts-well-formed = accepts (reached number calls) (reached-agrees number calls)

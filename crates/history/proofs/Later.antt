@@ -18,7 +18,7 @@ use Rattle.group.proofs.Accepted.{accepted}
 use Rattle.group.proofs.Carrier.{sheet-number}
 use Rattle.group.proofs.Close.{close-cases, closed-closed}
 use Rattle.group.proofs.Request.{request-code, request-keeps}
-use Rattle.history.specs.Run.{Call, request, close, Reached, openTick, step, run}
+use Rattle.history.specs.Run.{Move, request, close, Reached, openTick, step, run}
 use Rattle.history.specs.Strips.{keep, stripOf}
 use Rattle.history.proofs.Strips.{strip-later}
 
@@ -29,12 +29,12 @@ open-word g kind n e =
     let a = accepted g kind n (sym (request-code g kind n) ∙ e) in
     tick-word (openTick g) kind n (a .known) (omega (arith, sheet-number kind n (a .ranged)))
 
-step-closed : (c : Call) (r : Reached) → r .group .closed ≤ step c r .group .closed
+step-closed : (c : Move) (r : Reached) → r .group .closed ≤ step c r .group .closed
 unfolding step
 step-closed (request kind n) r = omega (arith, request-keeps (r .group) kind n .closed)
 step-closed close r = close-cases (r .group) (λ (g : Group). r .group .closed ≤ g .closed) (omega arith) (λ h. omega (arith, closed-closed (r .group)))
 
-step-strip : (c : Call) (r : Reached) (side : Side) (n t : ℕ) → t ≤ r .group .closed → stripOf side n t (step c r .events) ≡ stripOf side n t (r .events)
+step-strip : (c : Move) (r : Reached) (side : Side) (n t : ℕ) → t ≤ r .group .closed → stripOf side n t (step c r .events) ≡ stripOf side n t (r .events)
 unfolding step
 step-strip (request kind number) r side n t h = ⊎-elim
     (λ (y : eqb (requestAnswer (r .group) kind number .code) 0 ≡ true).
@@ -44,12 +44,12 @@ step-strip (request kind number) r side n t h = ⊎-elim
 step-strip close r side n t h = refl
 
 -- ---- calls
-pub run-closed : (calls : List Call) (r : Reached) → r .group .closed ≤ run calls r .group .closed
+pub run-closed : (calls : List Move) (r : Reached) → r .group .closed ≤ run calls r .group .closed
 unfolding run
 run-closed [] r = omega arith
 run-closed (c ∷ calls) r = omega (arith, step-closed c r, run-closed calls (step c r))
 
-pub run-strip : (calls : List Call) (r : Reached) (side : Side) (n t : ℕ) → t ≤ r .group .closed → stripOf side n t (run calls r .events) ≡ stripOf side n t (r .events)
+pub run-strip : (calls : List Move) (r : Reached) (side : Side) (n t : ℕ) → t ≤ r .group .closed → stripOf side n t (run calls r .events) ≡ stripOf side n t (r .events)
 unfolding run
 run-strip [] r side n t h = refl
 run-strip (c ∷ calls) r side n t h = run-strip calls (step c r) side n t (omega (arith, step-closed c r)) ∙ step-strip c r side n t h

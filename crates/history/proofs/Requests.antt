@@ -17,7 +17,7 @@ use Rattle.strip.specs.declared.Side.{Side}
 use Rattle.strip.specs.declared.Side.the-variants.{Model, Sheet}
 use Rattle.strip.specs.Good.{range, turn, tickBefore, Good}
 use Rattle.strip.proofs.Append.{good-end, before-end}
-use Rattle.group.specs.Accepted.{Accepted}
+use Rattle.group.specs.Accepted.{RequestAccepted}
 use Rattle.group.specs.Carrier.{carriers, entering}
 use Rattle.group.specs.Fits.{Fits}
 use Rattle.group.specs.Marks.{modelMarked, sheetMarked, carrierIn, modelIn, sheetIn}
@@ -100,7 +100,7 @@ module _ (g : Group) (z : Fits g) (t : ℕ) (ws : List ℕ) (kind n : ℕ) (lawf
           λ y. turn-is side place kind lawful e ∙ same .1 (sym (Bool·not-not (even place)) ∙ ap not (sym looked ∙ y) ∙ Bool·not-not (entering kind)),
         )
 
-    keeps-own : Accepted g kind n → Carried g t ws side n → Carried (markedGroup g kind n) t (ws ++ (new ∷ [])) side n
+    keeps-own : RequestAccepted g kind n → Carried g t ws side n → Carried (markedGroup g kind n) t (ws ++ (new ∷ [])) side n
     keeps-own a c =
         let marked : markedOn side g n ≡ false = sym (by-kind side kind (modelMarked g n) (sheetMarked g n) e) ∙ a .first in
         let f = free g side n t (stripOf side n t ws) (stripOf side n (suc t) ws) marked (c .tick) in
@@ -113,14 +113,14 @@ module _ (g : Group) (z : Fits g) (t : ℕ) (ws : List ℕ) (kind n : ℕ) (lawf
         }
 
     -- the strip of an accepted request's carrier is good with the event at its end
-    pub accepted-good : Accepted g kind n → Carried g t ws side n → Good side (suc t) (stripOf side n (suc t) ws ++ (new ∷ []))
+    pub accepted-good : RequestAccepted g kind n → Carried g t ws side n → Good side (suc t) (stripOf side n (suc t) ws ++ (new ∷ []))
     accepted-good a c =
         let l : n < range side = rw (carriers-range side kind e) at ranged in
         rw (strip-own side n ws (suc t) new (new-carried side n e refl) (omega (arith, new-tick))) at
         (carried-good (markedGroup g kind n) t (ws ++ (new ∷ [])) side n l (keeps-own a c))
 
   -- an accepted request keeps every carrier
-  pub request-carried : Accepted g kind n → (side : Side) (i : ℕ) → Carried g t ws side i → Carried (markedGroup g kind n) t (ws ++ (new ∷ [])) side i
+  pub request-carried : RequestAccepted g kind n → (side : Side) (i : ℕ) → Carried g t ws side i → Carried (markedGroup g kind n) t (ws ++ (new ∷ [])) side i
   request-carried a side i c = ⊎-elim
       (λ y.
       let p = carried-parts side i new y in
@@ -131,7 +131,7 @@ module _ (g : Group) (z : Fits g) (t : ℕ) (ws : List ℕ) (kind n : ℕ) (lawf
       (either (carriedBy side i new))
 
   -- a request that keeps the strip good is accepted
-  pub good-accepted : (side : Side) → Carried g t ws side n → g .closed < ticks → Good side (suc t) (stripOf side n (suc t) ws ++ (new ∷ [])) → Accepted g kind n
+  pub good-accepted : (side : Side) → Carried g t ws side n → g .closed < ticks → Good side (suc t) (stripOf side n (suc t) ws ++ (new ∷ [])) → RequestAccepted g kind n
   good-accepted side c h good =
       let s = stripOf side n t ws in
       let w = stripOf side n (suc t) ws in

@@ -24,11 +24,11 @@ use Rattle.formula.proofs.Judged.{judged}
 use Rattle.strip.specs.declared.Side.the-variants.{Model, Sheet}
 use Rattle.strip.specs.History.{historyOf}
 use Rattle.strip.proofs.Places.{tickAt, Rising, good-rising, history-means}
-use Rattle.judge.specs.Judge.{Accepted, judgedBy}
+use Rattle.judge.specs.Judge.{StripsAccepted, judgedBy}
 use Rattle.judge.specs.Evidence.{placeOf, evidenceOf, startOf}
 use Rattle.judge.proofs.Checked.{checks}
 
-module _ (m s : List ℕ) (now : ℕ) (a : Accepted m s now) where
+module _ (m s : List ℕ) (now : ℕ) (a : StripsAccepted m s now) where
   judges : judgedBy m s now ≡ verdict (historyOf m) (historyOf s) now
   judges = checks m s now Refused (verdict (historyOf m) (historyOf s) now) a
 
@@ -67,7 +67,7 @@ located s r k t n e =
     (λ j h. ne-eqb (tickAt s j) t (λ q. omega (arith, r .up j (v .place) h (v .inside), v .tick))) (eq-eqb _ _ (v .tick)) in
     record { inside = rw at (v .inside); tick = rw at (v .tick); kind = rw at (v .kind) }
 
-module _ (m s : List ℕ) (now : ℕ) (a : Accepted m s now) (t : ℕ) where
+module _ (m s : List ℕ) (now : ℕ) (a : StripsAccepted m s now) (t : ℕ) where
   moment-add : (v : Verdict) → Judged (historyOf m) (historyOf s) now v → v ≡ Granted (Add t) → ByAdd (historyOf m) (historyOf s) t
   moment-add v (by-add u g l b) e = let q : u ≡ t = cc e in rw (← q) b
   moment-add v (by-join u g l b) e = absurd (true≢false (cc e))

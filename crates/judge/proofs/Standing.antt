@@ -12,7 +12,7 @@ use Rattle.base.proofs.Truth.{either}
 use Rattle.rules.specs.Kinds.{LJ, SL, SR, isAdd}
 use Rattle.formula.specs.Formula.{History}
 use Rattle.formula.specs.Ticks.{inside, liberal, byAdd, byJoin, strict, grant}
-use Rattle.formula.specs.Verdict.{latest, earliest, granted, denied, verdict}
+use Rattle.formula.specs.Verdict.{latest, earliest, grantedAt, denied, verdict}
 use Rattle.formula.proofs.Move.{inside-start, inside-moves, liberal-start, liberal-moves, grant-start, grant-moves}
 use Rattle.judge.specs.declared.scan.Standing.{Standing}
 use Rattle.judge.specs.declared.scan.Standing.the-variants.{Never, ByAdd, ByJoin, Left, Removed}
@@ -46,7 +46,7 @@ module _ (model sheet : History) where
   Stands t (Removed e) = Ended t e false
 
   told : (t : ℕ) (x : Standing) → Stands t x → toldBy x ≡ verdict model sheet t
-  unfolding verdict granted denied
+  unfolding verdict grantedAt denied
   told t Never s = rw (s .0, s .1)
   told t (ByAdd k) s = rw (s .0, s .1, s .4)
   told t (ByJoin k) s = rw (s .0, s .1, s .4)

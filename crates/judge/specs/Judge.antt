@@ -1,4 +1,5 @@
 -- What is asked of two strips and now before a call answers, in the order of its refusals; and the judge's answer.
+use mathlib.Core.Path.{_≡_}
 use Prim.Native.Nat.{ℕ, _≤_}
 use mathlib.Core.Bool.{cond}
 use mathlib.Core.List.{List}
@@ -8,6 +9,7 @@ use Rattle.rules.specs.Ranges.{ticks, events}
 use Rattle.rules.specs.Refusals.{lateNow, longModel, longSheet, badModel, badSheet}
 use Rattle.formula.specs.declared.Verdict.{Verdict}
 use Rattle.formula.specs.declared.Verdict.the-variants.{Refused}
+use Rattle.formula.specs.Answer.{verdictNumber, verdictValue}
 use Rattle.formula.specs.Verdict.{verdict}
 use Rattle.strip.specs.declared.Side.the-variants.{Model, Sheet}
 use Rattle.strip.specs.Good.{Good, firstBad}
@@ -24,7 +26,7 @@ checked m s now refuse answer =
     answer))))
 
 -- no refusal applies
-pub record Accepted (m s : List ℕ) (now : ℕ) : Type 0 where
+pub record StripsAccepted (m s : List ℕ) (now : ℕ) : Type 0 where
   pub tick : now ≤ ticks
   pub short-m : length m ≤ events
   pub short-s : length s ≤ events
@@ -34,3 +36,9 @@ pub record Accepted (m s : List ℕ) (now : ℕ) : Type 0 where
 -- the judge: the verdict of the two histories at now
 abbrev pub judgedBy : List ℕ → List ℕ → ℕ → Verdict
 judgedBy m s now = checked m s now Refused (verdict (historyOf m) (historyOf s) now)
+
+-- the judge's promise: the case, and with it its number and value; of a refusal they are the refusal's number and its place
+pub record Judges (m s : List ℕ) (now : ℕ) (r : Verdict) : Type 0 where
+  pub answer : r ≡ judgedBy m s now
+  pub number : verdictNumber r ≡ checked m s now (λ refusal place. refusal) (verdictNumber (verdict (historyOf m) (historyOf s) now))
+  pub value : verdictValue r ≡ checked m s now (λ refusal place. place) (verdictValue (verdict (historyOf m) (historyOf s) now))

@@ -3,12 +3,11 @@ pub mod check;
 pub mod evidence;
 pub mod scan;
 
-ghost use mathlib.Core.Path.{_≡_};
-ghost use Rattle.judge.specs.Judge.{judgedBy};
+ghost use Rattle.judge.specs.Judge.{Judges};
 use formula::Verdict;
 
 pub fn judge(m: &[u32], s: &[u32], now: u32) -> Verdict
-    ensures { λ r. ⌜ r ≡ judgedBy (m .entry .now) (s .entry .now) now ⌝ }
+    ensures { λ r. ⌜ Judges (m .entry .now) (s .entry .now) now r ⌝ }
 {
     let checked = check::check(m, s, now);
     if checked.code != 0 {

@@ -7,7 +7,7 @@ use borrow.Author.Tests.{lt-ltb, le-ltb}
 use Rattle.rules.specs.Refusals.{tooManySpans}
 use Rattle.wire.specs.Put.{put}
 use Rattle.judge.specs.Checked as check
-use Rattle.judge.specs.Judge.{Accepted, checked}
+use Rattle.judge.specs.Judge.{StripsAccepted, checked}
 use Rattle.judge.proofs.Checked.{checks, check-refuses}
 use Rattle.span.specs.Answer.{flat, spansIn, refused, spansAnswer, listAfter}
 
@@ -20,7 +20,7 @@ module _ (m s : List ℕ) (now : ℕ) where
     pub list-refused : (list : List ℕ) → listAfter m s now list ≡ list
     list-refused list = check-refuses m s now (λ code place. list) _ n
 
-  module _ (a : Accepted m s now) where
+  module _ (a : StripsAccepted m s now) where
     -- 40
     pub answer-crowded : (room : ℕ) → room < 2 * length (spansIn m s now) → spansAnswer m s now room ≡ refused tooManySpans 0
     answer-crowded room h = checks m s now refused _ a ∙ simp (lt-ltb room (2 * length (spansIn m s now)) h)

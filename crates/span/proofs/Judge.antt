@@ -9,7 +9,7 @@ use native.Mathlib.Omega.{arith}
 use lib.Dec.{ltb}
 use borrow.Author.Tests.{ltb-true, ltb-false}
 use Rattle.base.proofs.Truth.{either}
-use Rattle.formula.specs.Answer.{valueOf}
+use Rattle.formula.specs.Answer.{verdictValue}
 use Rattle.formula.specs.Formula.{History, ByAdd, ByJoin, Moment, SL, SR, Grant}
 use Rattle.formula.specs.Judged.{Judged, Latest, by-add, by-join, none, strict-leave, strict-remove}
 use Rattle.formula.specs.Since.{Since}
@@ -17,7 +17,7 @@ use Rattle.formula.specs.declared.Moment as moment
 use Rattle.formula.specs.declared.Verdict.{Verdict}
 use Rattle.formula.specs.declared.Verdict.the-variants.{Granted}
 use Rattle.strip.specs.History.{historyOf}
-use Rattle.judge.specs.Judge.{Accepted, judgedBy}
+use Rattle.judge.specs.Judge.{StripsAccepted, judgedBy}
 use Rattle.judge.proofs.Promise.{judge-means, judge-grants}
 use Rattle.span.specs.Spans.{Span, Apart, LiesIn, Spans, LastIs, OpenSince}
 use Rattle.span.proofs.Exactly.{lies-after}
@@ -85,7 +85,7 @@ module _ (model sheet : History) (now t : ℕ) (latest : Latest model sheet now 
       (λ y. inr (t, latest .from, h, y, no))
       (latest .there)
 
-module _ (m s : List ℕ) (now : ℕ) (a : Accepted m s now) (l : List Span) (x : Spans (historyOf m) (historyOf s) now l) where
+module _ (m s : List ℕ) (now : ℕ) (a : StripsAccepted m s now) (l : List Span) (x : Spans (historyOf m) (historyOf s) now l) where
   -- the last span, of a grant that holds at now since the latest moment t
   open-since : (t : ℕ) → Grant (historyOf m) (historyOf s) now → Latest (historyOf m) (historyOf s) now t → OpenSince l now t
   open-since t g latest =
@@ -108,14 +108,14 @@ module _ (m s : List ℕ) (now : ℕ) (a : Accepted m s now) (l : List Span) (x 
         before = latest .upto;
       }
 
-  told : (v : Verdict) → Judged (historyOf m) (historyOf s) now v → (y : moment.Moment) → v ≡ Granted y → OpenSince l now (valueOf (Granted y))
+  told : (v : Verdict) → Judged (historyOf m) (historyOf s) now v → (y : moment.Moment) → v ≡ Granted y → OpenSince l now (verdictValue (Granted y))
   told v (by-add t g r b) y e = let q : y ≡ moment.the-variants.Add t = cc e in rw q (open-since t g r)
   told v (by-join t g r b) y e = let q : y ≡ moment.the-variants.Join t = cc e in rw q (open-since t g r)
   told v (none h) y e = absurd (true≢false (cc e))
   told v (strict-leave t u g r z b) y e = absurd (true≢false (cc e))
   told v (strict-remove t u g r z b) y e = absurd (true≢false (cc e))
 
-  pub granted-open : (y : moment.Moment) → judgedBy m s now ≡ Granted y → OpenSince l now (valueOf (Granted y))
+  pub granted-open : (y : moment.Moment) → judgedBy m s now ≡ Granted y → OpenSince l now (verdictValue (Granted y))
   granted-open y e = told (judgedBy m s now) (judge-means m s now a) y e
 
   pub open-granted : (q : Span) → LastIs l q → q .last ≡ now → (y : moment.Moment) × (judgedBy m s now ≡ Granted y)

@@ -4,7 +4,7 @@ ghost use mathlib.Core.Bool.{cond};
 ghost use Prim.Native.Nat.{_+_, _≤_};
 ghost use lib.Dec.{eqb};
 ghost use lib.ListN.{length};
-ghost use Rattle.judge.specs.Judge.{Accepted};
+ghost use Rattle.judge.specs.Judge.{StripsAccepted};
 ghost use Rattle.span.specs.Answer.{spansIn, spansAnswer, listAfter};
 ghost use Rattle.span.specs.Steps.{most, pairAt, pairsFrom, ended, endedList, turned, turnedList};
 use judge::scan;
@@ -74,7 +74,7 @@ fn turn(list: &mut [u32], was: Spanning, tick: u32, holds: bool) -> Spanning
 
 // One pass over both strips counts the spans, and writes those pairs for which the list has room.
 fn pairs(m: &[u32], s: &[u32], now: u32, list: &mut [u32]) -> usize
-    requires { ⌜ Accepted (m .now) (s .now) now ⌝ }
+    requires { ⌜ StripsAccepted (m .now) (s .now) now ⌝ }
     ensures { λ r. ⌜ (r ≡ length (spansIn (m .entry .now) (s .entry .now) now)) × (list .exit .now ≡ pairsFrom (list .entry .now) 0 (spansIn (m .entry .now) (s .entry .now) now)) ⌝ }
 {
     let mut pass = pass::begin(m, s);

@@ -11,8 +11,9 @@ use lib.Seq.{take-length}
 use borrow.Author.Tests.{lt-leb}
 use Rattle.rules.specs.Ranges.{models, sheets, groups}
 use Rattle.bits.specs.Bit.{bit}
-use Rattle.bits.proofs.Bit.{bit-low, bit-half}
-use Rattle.group.specs.Read.{granted, grantOf, readAnswer}
+use Rattle.bits.proofs.Bit.{bit-zero, bit-low, bit-half}
+use Rattle.bits.specs.Granted.{granted}
+use Rattle.group.specs.Read.{grantOf, readAnswer}
 use Rattle.group.specs.declared.Group.{Group}
 use Rattle.group.specs.declared.ReadAnswer.the-variants.{Granted, Denied}
 use Rattle.station.specs.Mask.{grants, maskOf}
@@ -34,14 +35,22 @@ mask-bit (g ∷ gs) model sheet zero d h = bit-low _ ∙ low-digit (grants g mod
 mask-bit (g ∷ gs) model sheet (suc i) d h =
     bit-half _ i ∙ ap (λ (w : ℕ). bit w i) (rest-digits (grants g model sheet) (maskOf gs model sheet)) ∙ mask-bit gs model sheet i d (le-of-suc-le-suc h)
 
+-- and past the last there is none
+pub mask-none : (gs : List Group) (model sheet i : ℕ) → length gs ≤ i → bit (maskOf gs model sheet) i ≡ false
+unfolding maskOf
+mask-none [] model sheet i h = bit-zero i
+mask-none (g ∷ gs) model sheet zero h = absurd (not-suc-le-zero h)
+mask-none (g ∷ gs) model sheet (suc i) h =
+    bit-half _ i ∙ ap (λ (w : ℕ). bit w i) (rest-digits (grants g model sheet) (maskOf gs model sheet)) ∙ mask-none gs model sheet i (le-of-suc-le-suc h)
+
 grant-case : (b : Bool) → grantOf (cond b Granted Denied) ≡ b
 grant-case true = refl
 grant-case false = refl
 
 -- a model and a sheet in range
-pub grants-granted : (g : Group) (model sheet : ℕ) → model < models → sheet < sheets → grants g model sheet ≡ granted g model sheet
+pub grants-granted : (g : Group) (model sheet : ℕ) → model < models → sheet < sheets → grants g model sheet ≡ granted (g .grants) model sheet
 unfolding readAnswer
-grants-granted g model sheet hm hs = simp (lt-leb _ _ hm, lt-leb _ _ hs) (grant-case (granted g model sheet))
+grants-granted g model sheet hm hs = simp (lt-leb _ _ hm, lt-leb _ _ hs) (grant-case (granted (g .grants) model sheet))
 
 -- "a 16-bit mask"
 pub mask-16 : (gs : List Group) (model sheet : ℕ) → length gs ≤ groups → maskOf gs model sheet < 2 ^ groups

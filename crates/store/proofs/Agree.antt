@@ -17,7 +17,8 @@ use Rattle.wire.proofs.Word.{le32-take}
 use Rattle.store.specs.declared.Delivery.{Delivery}
 use Rattle.store.specs.Store.{totalLength, sheetCount, goodStore}
 use Rattle.store.specs.Entry.{goodEntry, entryFault}
-use Rattle.store.specs.Granted.{granted, grantedBelow}
+use Rattle.bits.specs.Granted.{granted}
+use Rattle.store.specs.Granted.{grantedBelow}
 use Rattle.store.specs.Fault.{faulty, firstFaulty}
 use Rattle.store.specs.Delivery.{part, parts, deliveryOf, grantedSheets}
 use Rattle.store.specs.Answer.{answer, written, bufferAfter}

@@ -11,7 +11,7 @@ use Rattle.base.proofs.First.{first-before}
 use Rattle.base.proofs.Truth.{either}
 use Rattle.rules.specs.Ranges.{sheets}
 use Rattle.store.specs.Entry.{entryFault}
-use Rattle.store.specs.Granted.{granted}
+use Rattle.bits.specs.Granted.{granted}
 use Rattle.store.specs.Fault.{faulty, firstFaulty}
 
 module _ (grants : List ℕ) (m : ℕ) (b : List ℕ) (s : ℕ) where

@@ -8,7 +8,8 @@ use lib.ListN.{length, length-append}
 use Rattle.rules.specs.Ranges.{sheets}
 use Rattle.wire.specs.Put.{put}
 use Rattle.wire.proofs.Put.{put-none, put-next, length-put}
-use Rattle.store.specs.Granted.{granted, grantedBelow}
+use Rattle.bits.specs.Granted.{granted}
+use Rattle.store.specs.Granted.{grantedBelow}
 use Rattle.store.specs.Delivery.{part, parts, deliveryLength, grantedSheets}
 use Rattle.store.proofs.Parts.{parts-in, parts-out, parts-longer}
 

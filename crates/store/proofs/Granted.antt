@@ -4,7 +4,8 @@ use mathlib.Core.Bool.{true, false}
 use mathlib.Core.List.{List, [], _∷_, _++_, append-nil}
 use Prim.Native.Nat.{ℕ, _+_}
 use native.Mathlib.Numerals.{add-one}
-use Rattle.store.specs.Granted.{granted, grantedBelow}
+use Rattle.bits.specs.Granted.{granted}
+use Rattle.store.specs.Granted.{grantedBelow}
 
 module _ (grants : List ℕ) (m s : ℕ) where
   pub below-in : granted grants m s ≡ true → grantedBelow grants m (s + 1) ≡ grantedBelow grants m s ++ (s ∷ [])

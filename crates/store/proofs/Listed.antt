@@ -13,7 +13,8 @@ use Rattle.base.proofs.Truth.{either}
 use Rattle.rules.specs.Ranges.{sheets}
 use Rattle.wire.specs.Word.{le32, bytes32}
 use Rattle.store.specs.Entry.{offset, sheetLength}
-use Rattle.store.specs.Granted.{granted, grantedBelow}
+use Rattle.bits.specs.Granted.{granted}
+use Rattle.store.specs.Granted.{grantedBelow}
 use Rattle.store.specs.Delivery.{part, parts, deliveryLength, deliveryOf, grantedSheets}
 use Rattle.store.specs.Ready.{Ready}
 use Rattle.store.specs.Listed.{numbers, listed, Exactly}

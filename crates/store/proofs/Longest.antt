@@ -8,7 +8,8 @@ use native.Mathlib.Numerals.{add-one}
 use native.Mathlib.Omega.{arith}
 use Rattle.base.proofs.Truth.{either}
 use Rattle.rules.specs.Ranges.{sheets, storeBytes}
-use Rattle.store.specs.Granted.{granted, grantedBelow}
+use Rattle.bits.specs.Granted.{granted}
+use Rattle.store.specs.Granted.{grantedBelow}
 use Rattle.store.specs.Delivery.{deliveryLength, grantedSheets}
 use Rattle.store.specs.Ready.{Ready}
 use Rattle.store.proofs.Store.{good}

@@ -13,14 +13,15 @@ use Rattle.base.proofs.Truth.{either}
 use Rattle.wire.specs.Word.{le32, bytes32}
 use Rattle.wire.proofs.Word.{length-bytes32}
 use Rattle.store.specs.Entry.{offset, sheetLength}
-use Rattle.store.specs.Granted.{granted, grantedBelow}
+use Rattle.bits.specs.Granted.{granted}
+use Rattle.store.specs.Granted.{grantedBelow}
 use Rattle.store.specs.Delivery.{sheetBytes, part, parts}
 use Rattle.store.proofs.Granted.{below-in, below-out}
 use Rattle.store.proofs.Head.{read-first, read-second, drop-head}
 
 -- a part is two words and the sheet's bytes
 module _ (b : List ℕ) (s : ℕ) (within : offset b s + sheetLength b s ≤ length b) where
-  length-sheet : length (sheetBytes b s) ≡ sheetLength b s
+  pub length-sheet : length (sheetBytes b s) ≡ sheetLength b s
   unfolding sheetBytes
   length-sheet = length-take-le (sheetLength b s) (drop (offset b s) b) (simp length-drop (omega arith))
 

@@ -9,7 +9,8 @@ use lib.ListN.{length, length-append}
 use Rattle.base.proofs.First.{None, first-none, first-is}
 use Rattle.rules.specs.Ranges.{sheets, storeBytes}
 use Rattle.store.specs.Entry.{sheetLength, entryFault}
-use Rattle.store.specs.Granted.{granted, grantedBelow}
+use Rattle.bits.specs.Granted.{granted}
+use Rattle.store.specs.Granted.{grantedBelow}
 use Rattle.store.specs.Fault.{faulty, firstFaulty}
 use Rattle.store.specs.Delivery.{part, parts, deliveryLength}
 use Rattle.store.proofs.Store.{Good}

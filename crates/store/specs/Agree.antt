@@ -7,7 +7,7 @@ use lib.ListN.{length, take}
 use Rattle.rules.specs.Ranges.{sheets}
 use Rattle.store.specs.Store.{sheetCount}
 use Rattle.store.specs.Entry.{offset, sheetLength, entryFault}
-use Rattle.store.specs.Granted.{granted}
+use Rattle.bits.specs.Granted.{granted}
 use Rattle.store.specs.Delivery.{sheetBytes}
 
 -- Two stores, and the grant words of two groups, agree there. An entry counts where the store has it, its bytes where it has no fault.

@@ -6,7 +6,7 @@ use lib.Dec.{eqb}
 use Rattle.base.specs.First.{first}
 use Rattle.rules.specs.Ranges.{sheets}
 use Rattle.store.specs.Entry.{entryFault}
-use Rattle.store.specs.Granted.{granted}
+use Rattle.bits.specs.Granted.{granted}
 
 -- sheet s is granted, and its entry has a fault
 unfoldable pub faulty : List ℕ → ℕ → List ℕ → ℕ → Bool

@@ -2,11 +2,7 @@
 use Prim.Native.Nat.{ℕ, zero, suc}
 use mathlib.Core.Bool.{Bool, cond}
 use mathlib.Core.List.{List, [], _∷_, _++_}
-use Rattle.bits.specs.Bit.{bitIn}
-
--- 256 words of 64 bits, one word a sheet, one bit a model.
-abbrev pub granted : List ℕ → ℕ → ℕ → Bool
-granted grants m s = bitIn grants s m
+use Rattle.bits.specs.Granted.{granted}
 
 -- the granted sheets below k, by rising number
 unfoldable pub grantedBelow : List ℕ → ℕ → ℕ → List ℕ

@@ -6,7 +6,7 @@ use Prim.Native.Nat.{ℕ, zero, suc, _+_, _<_}
 use lib.ListN.{length, getD, drop}
 use Rattle.rules.specs.Ranges.{sheets}
 use Rattle.wire.specs.Word.{le32}
-use Rattle.store.specs.Granted.{granted}
+use Rattle.bits.specs.Granted.{granted}
 
 -- the numbers of the first n parts of d: each part tells by its length where the next begins
 unfoldable pub numbers : List ℕ → ℕ → List ℕ

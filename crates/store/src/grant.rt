@@ -2,7 +2,7 @@
 ghost use mathlib.Core.Path.{_≡_};
 ghost use Prim.Native.Nat.{_<_};
 ghost use Rattle.rules.specs.Ranges.{models, sheets};
-ghost use Rattle.store.specs.Granted.{granted};
+ghost use Rattle.bits.specs.Granted.{granted};
 
 // Bit `model` of the sheet's grant word.
 pub fn is_granted(grants: &[u64; 256], model: u32, sheet: u32) -> bool

@@ -6,7 +6,7 @@ mod write;
 
 ghost use mathlib.Core.Path.{_≡_};
 ghost use lib.ListN.{length};
-ghost use Rattle.store.specs.Answer.{answer, bufferAfter};
+ghost use Rattle.store.specs.Answer.{Delivers, bufferAfter};
 
 // A delivery's answer: its total length; or a refusal's number with its place, the sheet for 32 and 33 and else 0.
 pub enum Delivery {
@@ -16,7 +16,7 @@ pub enum Delivery {
 
 // Delivers from `store` the sheets that `grants` grants the model: sheet s where bit `model` of grants[s] is set.
 pub fn deliver(grants: &[u64; 256], model: u32, store: &[u8], out: &mut [u8]) -> Delivery
-    ensures answered { λ r. ⌜ r ≡ answer (now (grants .entry)) model (now (store .entry)) (length (now (out .entry))) ⌝ }
+    ensures answered { λ r. ⌜ Delivers (now (grants .entry)) model (now (store .entry)) (length (now (out .entry))) r ⌝ }
     ensures left { λ _. ⌜ now (out .exit) ≡ bufferAfter (now (grants .entry)) model (now (store .entry)) (now (out .entry)) ⌝ }
 {
     if model >= rules::MODELS {

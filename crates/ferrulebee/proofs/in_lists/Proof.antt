@@ -46,7 +46,7 @@ returns c =
     let d = c .before .before .before .before .before .before .before in
     let e = d .before .before .before .before in
     let a = e .before .before .before .before .before .before .args in
-    c .judge .ensures
+    c .judge .ensures .answer
     ∙ ap₂ (λ (x y : List ℕ). judgedBy x y (a .now))
     (lent (a .m .now) (e .decode .result) _ _ (e .decode .ensures .0) (e .decode .ensures .1))
     (lent (a .s .now) (d .decode2 .result) _ _ (d .decode2 .ensures .0) (d .decode2 .ensures .1))

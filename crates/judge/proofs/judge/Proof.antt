@@ -6,9 +6,9 @@ use Rattle.strip.specs.History.{historyOf}
 use Rattle.strip.proofs.Places.{good-rising, good-upto}
 use Rattle.judge.specs.declared.check.Checked.{Checked}
 use Rattle.judge.specs.declared.scan.Seen.{Seen}
-use Rattle.judge.specs.Judge.{Accepted}
+use Rattle.judge.specs.Judge.{StripsAccepted}
 use Rattle.judge.specs.Scan.{toldBy}
-use Rattle.judge.proofs.Checked.{checks, check-accepts, check-refuses}
+use Rattle.judge.proofs.Checked.{checks, check-accepts, check-refuses, judges}
 use Rattle.judge.proofs.Standing.{scan-tells}
 use borrow.Author.Needs.{needs}
 use Rattle.judge.proofs.judge.Statement.{statement}
@@ -21,12 +21,13 @@ returns : tie.Need-returns
 returns c =
     let e = c .before .before .check .ensures in
     let a = c .before .before .before .before .before .args in
-    ap (λ (x : Checked). Refused (x .code) (x .place)) e
+    judges _ _ _ _
+    (ap (λ (x : Checked). Refused (x .code) (x .place)) e
     ∙ sym (check-refuses (a .m .now) (a .s .now) (a .now) Refused (verdict (historyOf (a .m .now)) (historyOf (a .s .now)) (a .now))
-    (λ z. c .if1 .taken (ap (λ (x : Checked). x .code) e ∙ z)))
+    (λ z. c .if1 .taken (ap (λ (x : Checked). x .code) e ∙ z))))
 
 -- past the check no refusal applies
-accepted : (c : tie.Else1) → let a = c .before .before .before .before .before .args in Accepted (a .m .now) (a .s .now) (a .now)
+accepted : (c : tie.Else1) → let a = c .before .before .before .before .before .args in StripsAccepted (a .m .now) (a .s .now) (a .now)
 accepted c = check-accepts _ _ _ (sym (ap (λ (x : Checked). x .code) (c .before .before .check .ensures)) ∙ c .if1 .left)
 
 scan-requires : tie.Need-scan-requires
@@ -42,10 +43,11 @@ returns-2 c =
     let b = c .before .before in
     let x = accepted b in
     let a = b .before .before .before .before .before .args in
-    c .told .ensures
+    judges _ _ _ _
+    (c .told .ensures
     ∙ ap (λ (y : Seen). toldBy (y .standing)) (c .before .scan .ensures (a .now) (good-upto _ _ _ (x .good-m)) (good-upto _ _ _ (x .good-s)))
     ∙ scan-tells (historyOf (a .m .now)) (historyOf (a .s .now)) (a .now)
-    ∙ sym (checks (a .m .now) (a .s .now) (a .now) Refused (verdict (historyOf (a .m .now)) (historyOf (a .s .now)) (a .now)) x)
+    ∙ sym (checks (a .m .now) (a .s .now) (a .now) Refused (verdict (historyOf (a .m .now)) (historyOf (a .s .now)) (a .now)) x))
 
 pub judge-spec : {M : Type 1} → statement M
 judge-spec = tie.close (tie.spec check-requires returns scan-requires told-requires returns-2)

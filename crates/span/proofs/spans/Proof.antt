@@ -5,7 +5,7 @@ use Prim.Native.Nat.{ℕ, _*_, _<_, _≤_}
 use native.Mathlib.Omega.{arith}
 use lib.ListN.{length}
 use Rattle.judge.specs.Checked as check
-use Rattle.judge.specs.Judge.{Accepted, checked}
+use Rattle.judge.specs.Judge.{StripsAccepted, checked}
 use Rattle.judge.specs.declared.check.Checked.{Checked}
 use Rattle.judge.proofs.Checked.{check-accepts}
 use Rattle.span.specs.Answer.{spansIn, refused, spansAnswer, listAfter}
@@ -32,7 +32,7 @@ returns c =
     )
 
 -- past the check no refusal of the strips applies
-accepted : (c : tie.Else1) → let a = c .before .before .before .before .before .before .args in Accepted (a .m .now) (a .s .now) (a .now)
+accepted : (c : tie.Else1) → let a = c .before .before .before .before .before .before .args in StripsAccepted (a .m .now) (a .s .now) (a .now)
 accepted c = check-accepts _ _ _ (sym (ap (λ (x : Checked). x .code) (c .before .before .check .ensures)) ∙ c .if1 .left)
 
 -- no more pairs than half the events
@@ -42,7 +42,7 @@ few c =
     omega (arith, spans-few (a .m .now) (a .s .now) (a .now), accepted c .short-m, accepted c .short-s)
 
 -- what is answered, and what the list is then, where all pairs fit
-module _ (m s : List ℕ) (now : ℕ) (x : Accepted m s now) (list : List ℕ) (h : 2 * length (spansIn m s now) ≤ length list) where
+module _ (m s : List ℕ) (now : ℕ) (x : StripsAccepted m s now) (list : List ℕ) (h : 2 * length (spansIn m s now) ≤ length list) where
   answered : (r : SpansAnswer) (n : ℕ) → r ≡ record { code = 0; place = 0; count = n } → n ≡ length (spansIn m s now) → r ≡ spansAnswer m s now (length list)
   answered r n e k = e ∙ ap (λ (c : ℕ). record { code = 0; place = 0; count = c }) k ∙ sym (answer-given m s now x (length list) h)
 

@@ -17,7 +17,7 @@ same-length c = search needs
 returns : tie.Need-returns
 returns c =
     let d = c .before .before .before .deliver in
-    (c .numbers .ensures ∙ ap deliveryNumbers (d .ensures .0), d .ensures .1)
+    (c .numbers .ensures ∙ ap deliveryNumbers (d .ensures .0 .answer), d .ensures .1)
 
 pub ferrulebee-deliver-spec : {M : Type 1} → statement M
 ferrulebee-deliver-spec =

@@ -58,8 +58,8 @@ returns : tie.Need-returns
 returns c =
     let b = c .before in
     let a = b .before .before .before .before .args in
-    rw (← b .judge .ensures)
-    (nothing (b .judge .result) (a .m .now) (a .s .now) _ (c .match .keys2) (b .before .evidence .ensures .0 ∙ ap (λ (v : Verdict). evidenceOf v (a .m .now) (a .s .now)) (sym (b .judge .ensures))))
+    rw (← b .judge .ensures .answer)
+    (nothing (b .judge .result) (a .m .now) (a .s .now) _ (c .match .keys2) (b .before .evidence .ensures .0 ∙ ap (λ (v : Verdict). evidenceOf v (a .m .now) (a .s .now)) (sym (b .judge .ensures .answer))))
 
 enum-told : tie.Need-enum-told
 enum-told c = search needs
@@ -78,21 +78,21 @@ sub-t10 c =
     let b = c .before .before .before in
     let j = b .before .before in
     let a = j .before .before .before .before .args in
-    tail-le (a .s .now) _ _ (told _ _ _ _ (a .m .now) (a .s .now) _ (j .judge .ensures) (b .moment .given .1) (c .enum-told .given .1) (j .before .evidence .ensures .0) .1)
+    tail-le (a .s .now) _ _ (told _ _ _ _ (a .m .now) (a .s .now) _ (j .judge .ensures .answer) (b .moment .given .1) (c .enum-told .given .1) (j .before .evidence .ensures .0) .1)
 
 sub-t12 : tie.Need-sub-t12
 sub-t12 c =
     let b = c .before .before .before in
     let j = b .before .before in
     let a = j .before .before .before .before .args in
-    tail-le (a .m .now) _ _ (told _ _ _ _ (a .m .now) (a .s .now) _ (j .judge .ensures) (b .moment .given .1) (c .enum-told2 .given .1) (j .before .evidence .ensures .0) .1)
+    tail-le (a .m .now) _ _ (told _ _ _ _ (a .m .now) (a .s .now) _ (j .judge .ensures .answer) (b .moment .given .1) (c .enum-told2 .given .1) (j .before .evidence .ensures .0) .1)
 
 returns-2 : tie.Need-returns-2
 returns-2 c =
     let b = c .before .before .before in
     let j = b .before .before in
     let a = j .before .before .before .before .args in
-    let k = told _ _ _ _ (a .m .now) (a .s .now) _ (j .judge .ensures) (b .moment .given .1) (c .enum-told .given .1) (j .before .evidence .ensures .0) in
+    let k = told _ _ _ _ (a .m .now) (a .s .now) _ (j .judge .ensures .answer) (b .moment .given .1) (c .enum-told .given .1) (j .before .evidence .ensures .0) in
     rw (k .0) (tail-is sheetStrip (a .s .now) _ _ (k .1))
 
 returns-3 : tie.Need-returns-3
@@ -100,7 +100,7 @@ returns-3 c =
     let b = c .before .before .before in
     let j = b .before .before in
     let a = j .before .before .before .before .args in
-    let k = told _ _ _ _ (a .m .now) (a .s .now) _ (j .judge .ensures) (b .moment .given .1) (c .enum-told2 .given .1) (j .before .evidence .ensures .0) in
+    let k = told _ _ _ _ (a .m .now) (a .s .now) _ (j .judge .ensures .answer) (b .moment .given .1) (c .enum-told2 .given .1) (j .before .evidence .ensures .0) in
     rw (k .0) (tail-is modelStrip (a .m .now) _ _ (k .1))
 
 pub ferrulebee-evidence-spec : {M : Type 1} → statement M

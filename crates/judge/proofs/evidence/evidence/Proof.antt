@@ -43,7 +43,7 @@ part-result-end c = search needs
 returns : tie.Need-returns
 returns c =
     let a = c .before .before .before .before .before .args in
-    rw (← c .before .before .judge .ensures) (nothing (c .before .before .judge .result) (a .m) (a .s) (c .before .match .keys2))
+    rw (← c .before .before .judge .ensures .answer) (nothing (c .before .before .judge .result) (a .m) (a .s) (c .before .match .keys2))
 
 enum-known-moment-2 : tie.Need-enum-known-moment-2
 enum-known-moment-2 c = search needs
@@ -85,14 +85,14 @@ returns-2 : tie.Need-returns-2
 returns-2 c =
     let b = c .before .before .before .before .before .before in
     let a = b .before .before .before .before .before .args in
-    rw (← b .before .before .judge .ensures, b .moment .given .1, c .before .before .before .moment2 .given .1)
+    rw (← b .before .before .judge .ensures .answer, b .moment .given .1, c .before .before .before .moment2 .given .1)
     (tail (a .s .now) _ ∙ ap (λ (k : ℕ). drop k (a .s .now)) (c .before .place-of .ensures .0), ap (wordAt (a .s)) (c .before .place-of .ensures .0))
 
 returns-3 : tie.Need-returns-3
 returns-3 c =
     let b = c .before .before .before .before .before .before in
     let a = b .before .before .before .before .before .args in
-    rw (← b .before .before .judge .ensures, b .moment .given .1, c .before .before .before .moment3 .given .1)
+    rw (← b .before .before .judge .ensures .answer, b .moment .given .1, c .before .before .before .moment3 .given .1)
     (tail (a .m .now) _ ∙ ap (λ (k : ℕ). drop k (a .m .now)) (c .before .place-of2 .ensures .0), ap (wordAt (a .m)) (c .before .place-of2 .ensures .0))
 
 pub evidence-spec : {M : Type 1} → statement M

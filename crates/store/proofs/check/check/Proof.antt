@@ -9,7 +9,7 @@ use borrow.Author.Needs.{needs}
 use borrow.Author.Tests.{not-true, not-false}
 use Rattle.store.specs.declared.check.Checked.{Checked}
 use Rattle.store.specs.Entry.{entryFault}
-use Rattle.store.specs.Granted.{granted}
+use Rattle.bits.specs.Granted.{granted}
 use Rattle.store.specs.Fault.{firstFaulty}
 use Rattle.store.specs.Checked.{checkedTo, checked}
 use Rattle.store.proofs.Store.{Good, good}

@@ -8,7 +8,7 @@ use borrow.Author.Needs.{needs}
 use borrow.Author.Tests.{not-true, not-false}
 use lib.ListN.{length}
 use Rattle.store.specs.Entry.{offset, sheetLength}
-use Rattle.store.specs.Granted.{granted}
+use Rattle.bits.specs.Granted.{granted}
 use Rattle.store.proofs.Store.{good}
 use Rattle.store.proofs.Entry.{sound}
 use Rattle.store.proofs.Fault.{fault-free}
