@@ -1,5 +1,6 @@
 -- The three demands: One.antt, Two.antt and Three.antt state them. Once.antt: a promise determines its answer. Spans.antt: the list of the spans is what the gate did. The others stand behind these.
 pub mod Alike
+pub mod Closes
 pub mod Counted
 pub mod Gates
 pub mod Lines
