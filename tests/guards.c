@@ -368,7 +368,7 @@ static void deliveries(void)
 
 /* ---- the book ---- */
 
-/* Document 01's book of group 3: six ticks, eight records. */
+/* The book of RULES.md 12.1, of group 3: six ticks, eight records. */
 static const uint32_t records[] = {4610, 6144, 9730, 14849, 16386, 16901, 24065, 27648};
 enum { RECORDS = sizeof records / sizeof *records, BOOK = FERRULEBEE_BOOK_HEADER + 4 * RECORDS };
 

@@ -1,5 +1,5 @@
 /* The judge from C: each refusal at its first and at a later place, each range at its last good
- * and its first bad value, and document 01's histories. Expected answers are document 01's. */
+ * and its first bad value, and the histories of RULES.md 14. Expected answers are the rules'. */
 #include "strips.h"
 
 #include <inttypes.h>

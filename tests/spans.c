@@ -1,6 +1,6 @@
-/* The spans from C: document 01's histories and R-1's edges with their spans by hand, each into lists of
- * every length from none to longer than needed; each refusal of the judge's in its order; and that a tick
- * lies in a span exactly when the judge grants there, over every short history. */
+/* The spans from C: the histories of RULES.md 14.1 and the edges of RULES.md 7 with their spans by hand,
+ * each into lists of every length from none to longer than needed; each refusal of the judge's in its
+ * order; and that a tick lies in a span exactly when the judge grants there, over every short history. */
 #include "strips.h"
 
 #include <inttypes.h>

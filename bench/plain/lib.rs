@@ -1,6 +1,6 @@
 //! The gate's work in plain Rust, as the baseline of the benchmark: the same answers, the same checks
-//! and refusals in the same order, written from document 01 in the form that comes to mind first when
-//! it has to be fast. Nothing is proved, and no `unsafe` stands here.
+//! and refusals in the same order, written from the rules (docs/RULES.md) in the form that comes to
+//! mind first when it has to be fast. Nothing is proved, and no `unsafe` stands here.
 #![forbid(unsafe_code)]
 
 pub mod book;

@@ -42,7 +42,7 @@ fn print(
     writeln!(out, "granted {granted}")
 }
 
-/// Judges pair by pair, as document 01 tells it.
+/// Judges pair by pair, as the rules tell it (RULES.md 12.1).
 pub fn by_pairs(records: &[u32]) -> Moments {
     let (models, sheets) = strips(records);
     let pairs = models.iter().flat_map(|model| sheets.iter().map(move |sheet| (model, sheet)));

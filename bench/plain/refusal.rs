@@ -1,9 +1,9 @@
-//! Refusals, by document 01's numbers.
+//! Refusals, by the numbers of RULES.md 11.1.
 
 #[derive(Clone, Copy, Debug, PartialEq, Eq)]
 pub struct Refusal {
     pub number: u32,
-    /// The record's place or the sheet's number, where document 01 names one.
+    /// The record's place or the sheet's number, where the rules name one.
     pub place: Option<u32>,
 }
 

@@ -1,4 +1,4 @@
-//! The grant formula of CS-TR-2011-016 (section 2.2), as document 01 words it:
+//! The grant formula of CS-TR-2011-016 (section 2.2), as RULES.md 4 words it:
 //! two `since` formulas over the whole history of one model and one sheet.
 
 use crate::event::{Event, Kind};

@@ -1,5 +1,6 @@
-//! Ferrulebee's second program: the gate's answers worked out again from document 01
-//! and the report's formula, from the whole history each time, with no running state.
+//! Ferrulebee's second program: the gate's answers worked out again from the rules
+//! (docs/RULES.md) and the report's formula, from the whole history each time, with no
+//! running state.
 //! It exists to be compared with the gate; where the two differ, one of them is wrong.
 
 pub mod answers;

@@ -1,4 +1,4 @@
-//! Every number of document 01 that means something, in one place.
+//! Every number of the rules that means something, in one place.
 
 pub const MODELS: u32 = 64;
 pub const SHEETS: u32 = 256;

@@ -1,4 +1,4 @@
-//! The refusal numbers of document 01, and how a refusal is printed.
+//! The refusal numbers (RULES.md 11.1), and how a refusal is printed.
 
 use std::fmt;
 

@@ -1,4 +1,4 @@
-//! Document 01's examples, and each refusal at its edge.
+//! The rules' examples, and each refusal at its edge.
 
 use crate::book;
 use crate::event::{Event, Kind, Side, KINDS};

@@ -1,4 +1,4 @@
-//! The readings that look right and aren't (document 01), on purpose: the programs take
+//! The readings that look right and aren't (RULES.md 15), on purpose: the programs take
 //! one from the environment as SECOND_WRONG, so that `compare` can be seen to find it.
 
 use crate::event::{Event, Kind};

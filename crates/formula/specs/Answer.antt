@@ -1,4 +1,4 @@
--- Document 01's number and value for each case of a verdict.
+-- The rules' number and value for each case of a verdict (RULES.md 6.3).
 use Prim.Native.Nat.{ℕ}
 use Rattle.formula.specs.declared.Verdict.{Verdict}
 use Rattle.formula.specs.declared.Verdict.the-variants.{Granted, Denied, Refused}

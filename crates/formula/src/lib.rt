@@ -1,4 +1,4 @@
-// What the judge answers, and document 01's number and value for each case.
+// What the judge answers, and the rules' number and value for each case (RULES.md 6.3).
 ghost use mathlib.Core.Path.{_≡_};
 ghost use Rattle.formula.specs.Answer.{verdictNumber, verdictValue};
 

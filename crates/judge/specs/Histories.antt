@@ -1,4 +1,4 @@
--- Document 01's histories to be proved, as one table: the model's events, the sheet's, now, and what the judge says.
+-- The rules' histories to be proved (RULES.md 14.1), as one table: the model's events, the sheet's, now, and what the judge says.
 use Prim.Native.Nat.{ℕ}
 use mathlib.Core.List.{List, [], _∷_}
 use Rattle.rules.specs.Kinds as kinds
