@@ -39,22 +39,21 @@ use Rattle.group.specs.declared.Group.{Group}
 use Rattle.group.specs.declared.ReadAnswer.{ReadAnswer}
 use Rattle.group.specs.declared.Settled.{Settled}
 use Rattle.judge.specs.Checked as check
+use Rattle.judge.specs.Evidence.{evidenceOf, startOf}
 use Rattle.judge.specs.Judge.{checked, judgedBy, Judges}
 use Rattle.judge.specs.Scan.{headOf, stepOf, holding, toldBy}
 use Rattle.judge.specs.declared.check.Checked.{Checked}
 use Rattle.judge.specs.declared.scan.Head.{Head}
 use Rattle.judge.specs.declared.scan.Seen.{Seen}
 use Rattle.judge.specs.declared.scan.Standing.{Standing}
-use Rattle.judge.proofs.Promise.{Meets, one-evidence}
 use Rattle.pass.specs.Pass.{begun}
 use Rattle.pass.specs.declared.Pass.{Pass}
 use Rattle.span.specs.Answer.{spansAnswer, listAfter}
 use Rattle.span.specs.declared.SpansAnswer.{SpansAnswer}
 use Rattle.station.specs.Mask.{maskAnswer}
 use Rattle.station.specs.declared.MaskAnswer.{MaskAnswer}
-use Rattle.store.specs.Answer.{answer, bufferAfter}
+use Rattle.store.specs.Answer.{answer, Delivers, bufferAfter}
 use Rattle.store.specs.declared.Delivery.{Delivery}
-use Rattle.store.proofs.Once.{Promised}
 use Rattle.strip.specs.declared.Side.{Side}
 use Rattle.strip.specs.Good.{firstBad}
 use Rattle.text.specs.Text.{added, addedEnd, AddsDecimal}
@@ -64,68 +63,123 @@ use Rattle.text.proofs.Once.{one-decimal}
 abbrev pub Once : (A : Type 0) → (A → Type 0) → Type 0
 Once A P = (r t : A) → P r → P t → r ≡ t
 
+-- The line above each entry names the calls whose contract it is: the entry's variables are their parameters in order, a list for what is lent, and a
+-- reference where the answer's place is told too; `r` is the answer, or the answer and then what is left in each thing lent to be changed. `tests/promises`
+-- compares the two texts.
 pub record PromisesDetermine : Type 0 where
   -- the group
+  -- Group::fresh, ferrulebee_fresh
   pub fresh : (number : ℕ) → Once Answer (λ r. r ≡ freshAnswer number)
+  -- Group::request, ferrulebee_request
   pub request : (g : Group) (kind n : ℕ) → Once Answer (λ r. r ≡ requestAnswer g kind n)
+  -- group::request_at, ferrulebee_request_at
   pub request-at : (g : Group) (kind n : ℕ) → Once (ℕ × Group) (λ r. (r .0 ≡ requestAnswer g kind n .code) × (r .1 ≡ requestAnswer g kind n .group))
+  -- Group::close, ferrulebee_close
   pub close : (g : Group) → Once Answer (λ r. r ≡ closeAnswer g)
+  -- Group::read
   pub read : (g : Group) (m s : ℕ) → Once ReadAnswer (Reads g m s)
+  -- Group::models, ferrulebee_models
   pub models : (g : Group) (s : ℕ) → Once CountAnswer (λ r. r ≡ countAnswer g s)
   -- the station
+  -- station::mask, ferrulebee_mask
   pub mask : (gs : List Group) (m s : ℕ) → Once MaskAnswer (λ r. r ≡ maskAnswer gs m s)
   -- the judge, on words and from C, and its evidence: the same words at the same place
+  -- judge::judge
   pub judge : (m s : List ℕ) (now : ℕ) → Once Verdict (Judges m s now)
+  -- judge
   pub judge-bytes : (m s : List ℕ) (now : ℕ) → Once ℕ (λ r. r ≡ packed (judgedFrom m s now))
-  pub evidence : (m s : RefT (List ℕ)) (now : ℕ) (r t : RefT (List ℕ)) → Meets m s now r → Meets m s now t → (r .now ≡ t .now) × (r .ptr ≡ t .ptr)
-  -- the check of two strips, and the spans with their list; from C they are the same
+  -- judge::evidence::evidence
+  pub evidence : (m s : RefT (List ℕ)) (now : ℕ)
+      → Once (List ℕ × (ℕ × ℕ)) (λ r. (r .0 ≡ evidenceOf (judgedBy (m .now) (s .now) now) (m .now) (s .now)) × (r .1 ≡ startOf (judgedBy (m .now) (s .now) now) m s))
+  -- the check of two strips, and the spans with their list
+  -- judge::check::check
   pub check : (m s : List ℕ) (now : ℕ) → Once Checked (λ r. r ≡ checked m s now check.refused check.accepted)
+  -- span::spans, ferrulebee_spans
   pub spans : (m s : List ℕ) (now : ℕ) (list : List ℕ)
       → Once (SpansAnswer × List ℕ) (λ r. (r .0 ≡ spansAnswer m s now (length list)) × (r .1 ≡ listAfter m s now list))
-  -- a delivery, with its buffer
-  pub delivery : (grants : List ℕ) (m : ℕ) (store out : List ℕ) → Once (Delivery × List ℕ) (λ r. Promised grants m store out (r .0) (r .1))
+  -- a delivery, with its buffer: by grants, and by a group's
+  -- store::deliver
+  pub delivery : (grants : List ℕ) (m : ℕ) (store out : List ℕ)
+      → Once (Delivery × List ℕ) (λ r. Delivers grants m store (length out) (r .0) × (r .1 ≡ bufferAfter grants m store out))
+  -- delivery::deliver
+  pub group-delivery : (g : Group) (m : ℕ) (store out : List ℕ)
+      → Once (Delivery × List ℕ) (λ r. Delivers (g .grants) m store (length out) (r .0) × (r .1 ≡ bufferAfter (g .grants) m store out))
   -- the book: reader with its word list, writer with its buffer, and the records of one tick: the same words at the same place
+  -- book::read, ferrulebee_book_read
   pub reader : (b list : List ℕ) → Once (BookRead × List ℕ) (λ r. (r .0 ≡ bookRead b (length list)) × (r .1 ≡ listRead b list))
+  -- book::write, ferrulebee_book_write
   pub writer : (T n : ℕ) (ws buffer : List ℕ)
       → Once (BookWritten × List ℕ) (λ r. (r .0 ≡ bookWritten T n ws (length buffer)) × (r .1 ≡ bufferWritten T n ws buffer))
+  -- book::tick_part
   pub tick-part : (ws : RefT (List ℕ)) (t : ℕ)
       → Once (List ℕ × (ℕ × ℕ)) (λ r. (r .0 ≡ tickPart (ws .now) t) × (r .1 ≡ wordAt ws (tickStart (ws .now) t)))
   -- strips: the first bad place, and a carrier's strip gathered into a list
+  -- strip::first_bad
   pub first-bad : (side : Side) (now : ℕ) (s : List ℕ) → Once ℕ (λ r. r ≡ firstBad side now s)
+  -- gather::gather
   pub gather : (words : List ℕ) (side : Side) (n : ℕ) (out : List ℕ) (at : ℕ)
       → Once (ℕ × List ℕ) (λ r. (r .0 ≡ gatheredEnd words side n out at) × (r .1 ≡ gathered words side n out at))
   -- from C, in numbers: a read, a delivery with its buffer, the records of one tick, the evidence
+  -- ferrulebee_read
   pub read-numbers : (g : Group) (m s : ℕ) → Once Read (λ r. r ≡ readNumbers (readAnswer g m s))
-  pub delivery-numbers : (grants : List ℕ) (m : ℕ) (store out : List ℕ)
-      → Once (Delivered × List ℕ) (λ r. (r .0 ≡ deliveryNumbers (answer grants m store (length out))) × (r .1 ≡ bufferAfter grants m store out))
+  -- ferrulebee_deliver
+  pub delivery-numbers : (g : Group) (m : ℕ) (store out : List ℕ)
+      → Once (Delivered × List ℕ) (λ r. (r .0 ≡ deliveryNumbers (answer (g .grants) m store (length out))) × (r .1 ≡ bufferAfter (g .grants) m store out))
+  -- ferrulebee_tick_part
   pub records-numbers : (ws : List ℕ) (t : ℕ) → Once Part (λ r. r ≡ recordsPart ws t)
+  -- ferrulebee_evidence
   pub evidence-numbers : (m s : List ℕ) (now : ℕ) → Once Part (λ r. r ≡ evidencePart (judgedBy m s now) m s)
   -- what calls are made of: bits and sets, a kind's carriers, all of a close but the grants, a list that rises and a place in it
+  -- bits::after_word
   pub after-word : (was gone come : ℕ) → Once ℕ (λ r. r ≡ afterWord was gone come)
+  -- bits::next_bit
   pub next-bit : (w from : ℕ) → Once ℕ (λ r. r ≡ nextBit w from)
+  -- bits::choose
   pub choose : (when : Bool) (a b : ℕ) → Once ℕ (λ r. r ≡ cond when a b)
+  -- bits::count
   pub count-bits : (w : ℕ) → Once ℕ (λ r. r ≡ howMany (bit w) width)
+  -- bits::set_either
   pub set-either : (xs ys : List ℕ) → Once (List ℕ) (λ r. r ≡ either 4 xs ys)
+  -- bits::set_after
   pub set-after : (was gone come : List ℕ) → Once (List ℕ) (λ r. r ≡ after 4 was gone come)
+  -- group::carriers_of
   pub carriers-of : (kind : ℕ) → Once ℕ (λ r. r ≡ carriers kind)
+  -- group::is_entering
   pub is-entering : (kind : ℕ) → Once Bool (λ r. r ≡ entering kind)
+  -- Group::settled
   pub settled : (g : Group) → Once Settled (λ r. r ≡ settledBy g)
+  -- book::tick::is_rising
   pub is-rising : (ws : List ℕ) → Once Bool (λ r. r ≡ rising ws)
+  -- book::tick::place_from
   pub place-from : (ws : List ℕ) (t : ℕ) → Once ℕ (λ r. (r ≡ placeFrom ws t) × (r ≤ length ws))
   -- the pass over two strips: before the first tick, the next event, a tick's events taken, what the standing tells
+  -- pass::begin
   pub begin : (m s : List ℕ) → Once Pass (λ r. r ≡ begun m s)
+  -- judge::scan::next_event
   pub next-event : (s : List ℕ) (i : ℕ) → Once Head (λ r. r ≡ headOf s i)
+  -- judge::scan::step
   pub scan-step : (seen : Seen) (t model sheet : ℕ) → Once Seen (λ r. r ≡ stepOf seen t model sheet)
+  -- judge::scan::holds
   pub holds : (x : Standing) → Once Bool (λ r. r ≡ holding x)
+  -- judge::scan::told
   pub told : (x : Standing) → Once Verdict (λ r. r ≡ toldBy x)
   -- the numbers of a verdict
+  -- formula::number
   pub number : (v : Verdict) → Once ℕ (λ r. r ≡ verdictNumber v)
+  -- formula::value
   pub value : (v : Verdict) → Once ℕ (λ r. r ≡ verdictValue v)
   -- text and decimal digits added to a buffer
+  -- text::add
   pub text : (out : List ℕ) (at : ℕ) (bytes : List ℕ) → Once (ℕ × List ℕ) (λ r. (r .0 ≡ addedEnd out at bytes) × (r .1 ≡ added out at bytes))
+  -- text::add_decimal
   pub decimal : (out : List ℕ) (at n : ℕ) → Once (ℕ × List ℕ) (λ r. AddsDecimal out at n (r .1) (r .0))
   -- the parts of an event word
-  pub word : (w : ℕ) → Once (ℕ × ℕ × ℕ) (λ r. (r .0 ≡ tickOf w) × (r .1 ≡ kindOf w) × (r .2 ≡ numberOf w))
+  -- event::tick
+  pub word-tick : (w : ℕ) → Once ℕ (λ r. r ≡ tickOf w)
+  -- event::kind
+  pub word-kind : (w : ℕ) → Once ℕ (λ r. r ≡ kindOf w)
+  -- event::number
+  pub word-number : (w : ℕ) → Once ℕ (λ r. r ≡ numberOf w)
 
 -- what equals a definition
 module _ {A : Type 0} where
@@ -136,6 +190,10 @@ module _ {A : Type 0} where
 module _ {A B : Type 0} where
   two : (a : A) (b : B) → Once (A × B) (λ r. (r .0 ≡ a) × (r .1 ≡ b))
   two a b r t p q = λ i. ((p .0 ∙ sym (q .0)) i, (p .1 ∙ sym (q .1)) i)
+
+once-delivered : (grants : List ℕ) (m : ℕ) (store out : List ℕ)
+    → Once (Delivery × List ℕ) (λ r. Delivers grants m store (length out) (r .0) × (r .1 ≡ bufferAfter grants m store out))
+once-delivered grants m store out r t p q = λ i. ((p .0 .answer ∙ sym (q .0 .answer)) i, (p .1 ∙ sym (q .1)) i)
 
 pub promises-determine : PromisesDetermine
 promises-determine = record {
@@ -148,17 +206,18 @@ promises-determine = record {
   mask = λ gs m s. one (maskAnswer gs m s);
   judge = λ m s now r t p q. p .answer ∙ sym (q .answer);
   judge-bytes = λ m s now. one (packed (judgedFrom m s now));
-  evidence = one-evidence;
+  evidence = λ m s now. two (evidenceOf (judgedBy (m .now) (s .now) now) (m .now) (s .now)) (startOf (judgedBy (m .now) (s .now) now) m s);
   check = λ m s now. one (checked m s now check.refused check.accepted);
   spans = λ m s now list. two (spansAnswer m s now (length list)) (listAfter m s now list);
-  delivery = λ grants m store out r t p q i. ((p .0 .answer ∙ sym (q .0 .answer)) i, (p .1 ∙ sym (q .1)) i);
+  delivery = once-delivered;
+  group-delivery = λ g. once-delivered (g .grants);
   reader = λ b list. two (bookRead b (length list)) (listRead b list);
   writer = λ T n ws buffer. two (bookWritten T n ws (length buffer)) (bufferWritten T n ws buffer);
   tick-part = λ ws t. two (tickPart (ws .now) t) (wordAt ws (tickStart (ws .now) t));
   first-bad = λ side now s. one (firstBad side now s);
   gather = λ words side n out at. two (gatheredEnd words side n out at) (gathered words side n out at);
   read-numbers = λ g m s. one (readNumbers (readAnswer g m s));
-  delivery-numbers = λ grants m store out. two (deliveryNumbers (answer grants m store (length out))) (bufferAfter grants m store out);
+  delivery-numbers = λ g m store out. two (deliveryNumbers (answer (g .grants) m store (length out))) (bufferAfter (g .grants) m store out);
   records-numbers = λ ws t. one (recordsPart ws t);
   evidence-numbers = λ m s now. one (evidencePart (judgedBy m s now) m s);
   after-word = λ was gone come. one (afterWord was gone come);
@@ -181,5 +240,7 @@ promises-determine = record {
   value = λ v. one (verdictValue v);
   text = λ out at bytes. two (addedEnd out at bytes) (added out at bytes);
   decimal = λ out at n r t p q. let e = one-decimal out at n (r .1) (t .1) (r .0) (t .0) p q in λ i. (e .1 i, e .0 i);
-  word = λ w r t p q i. ((p .0 ∙ sym (q .0)) i, (p .1 ∙ sym (q .1)) i, (p .2 ∙ sym (q .2)) i);
+  word-tick = λ w. one (tickOf w);
+  word-kind = λ w. one (kindOf w);
+  word-number = λ w. one (numberOf w);
 }

@@ -1,6 +1,6 @@
--- Document 01's table of refusals and its order, call by call: "request 1, 2, 3, 4, then 5 or 6; close 3; read and count of models 2; list 7, 2;
+-- The table of refusals and its order (docs/RULES.md, sections 11.1 and 11.2), call by call: "request 1, 2, 3, 4, then 5 or 6; close 3; read and count of models 2; list 7, 2;
 -- judge 10 to 14; reader 20 to 23, 28, then record by record 24, 25, 26; writer 22, 27, then the records likewise; delivery 2, 31, then granted
--- sheets by rising number 32, 33, then 34. 32 and 33 name the sheet." Document 02's R-1 adds the spans.
+-- sheets by rising number 32, 33, then 34. 32 and 33 name the sheet." Beside them the spans (section 7).
 use mathlib.Core.Bool.{not, _&&_, _||_}
 use mathlib.Core.List.{List, [], _∷_, _++_}
 use Prim.Native.Nat.{ℕ, _*_}
