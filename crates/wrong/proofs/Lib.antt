@@ -1,0 +1,4 @@
+pub mod Fresh
+pub mod In
+pub mod Story
+pub mod Wrong

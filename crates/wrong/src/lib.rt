@@ -1,0 +1,1 @@
+// Wrong gates, and that the demands shut them out. No code.
