@@ -21,7 +21,7 @@ use Rattle.store.specs.declared.Delivery.{Delivery}
 use Rattle.store.specs.declared.Delivery.the-variants.{Refused}
 use Rattle.store.proofs.Answer.{answer-number}
 use Rattle.history.proofs.Answers.{read-granted}
-use Rattle.demands.specs.Calls.{Call, deliver, delivered, answerTo, Run, start, next, reach}
+use Rattle.demands.specs.Calls.{Call, deliver, delivered, answerTo, Run, startFresh, next, reach}
 use Rattle.demands.specs.Alike.{shared, answersOf, Agreeing, Alike, done, both, stores, left, right}
 use Rattle.demands.specs.Gated.{Granting, Gated}
 use Rattle.demands.specs.Ours.{ours}
@@ -31,9 +31,9 @@ use Rattle.demands.proofs.Seen.{unseen, same-answers, same-after, same-
 -- ---- somewhere on a run from a fresh group
 
 abbrev pub Reaches : ℕ → Run Group → Type 0
-Reaches number r = (calls : List Call) × (reach ours (start ours number) calls ≡ r)
+Reaches number r = (calls : List Call) × (reach ours (startFresh ours number) calls ≡ r)
 
-pub reached-start : (number : ℕ) → Reaches number (start ours number)
+pub reached-start : (number : ℕ) → Reaches number (startFresh ours number)
 unfolding reach
 reached-start number = ([], refl)
 
@@ -43,7 +43,7 @@ reach-more [] c r = refl
 reach-more (d ∷ calls) c r = reach-more calls c (next ours r d)
 
 reached-next : (number : ℕ) (r : Run Group) (c : Call) → Reaches number r → Reaches number (next ours r c)
-reached-next number r c x = (x .0 ++ (c ∷ []), reach-more (x .0) c (start ours number) ∙ ap (λ (y : Run Group). next ours y c) (x .1))
+reached-next number r c x = (x .0 ++ (c ∷ []), reach-more (x .0) c (startFresh ours number) ∙ ap (λ (y : Run Group). next ours y c) (x .1))
 
 -- ---- a delivery to the model
 

@@ -31,7 +31,7 @@ use Rattle.book.specs.Replay.{replayedGroup}
 use Rattle.book.specs.declared.BookRead.{BookRead}
 use Rattle.book.proofs.Accepted.{read-code, read-headed, read-formed, good-read}
 use Rattle.book.proofs.Replaying.{replay-reached, replay-calls}
-use Rattle.demands.specs.Calls.{Call, Run, start, startBook, reach}
+use Rattle.demands.specs.Calls.{Call, Run, startFresh, startBook, reach}
 use Rattle.demands.specs.Gated.{Granting, Gated}
 use Rattle.demands.specs.Ours.{ours}
 use Rattle.demands.proofs.Counted.{book-stands}
@@ -86,7 +86,7 @@ run-gated number asks before calls same =
     subst (Gated ours) (ap (of asks) one ∙ sym (reach-moving asks calls (reached number before)))
     (reached-gated number asks (before ++ moving calls) kept)
 
-pub fresh-gated : (number : ℕ) (calls : List Call) → Gated ours (reach ours (start ours number) calls)
+pub fresh-gated : (number : ℕ) (calls : List Call) → Gated ours (reach ours (startFresh ours number) calls)
 fresh-gated number calls =
     subst (Gated ours) (sym (fresh-reach number calls))
     (reached-gated number (asked number) (moving calls) (run-number (moving calls) _ ∙ fresh-number number))

@@ -20,7 +20,7 @@ use Rattle.group.proofs.Close.{closed-number, closed-closed, close-cases, close
 use Rattle.group.proofs.Request.{request-keeps}
 use Rattle.history.specs.Run.{Reached, step, run}
 use Rattle.history.specs.Run as history
-use Rattle.demands.specs.Calls.{Call, request, close, read, count, deliver, Run, start, next, reach}
+use Rattle.demands.specs.Calls.{Call, request, close, read, count, deliver, Run, startFresh, next, reach}
 use Rattle.demands.specs.Ours.{ours}
 
 -- the calls that can move a group, as the history of a group has them
@@ -99,7 +99,7 @@ pub fresh-number : (number : ℕ) → freshAnswer number .group .number ≡ aske
 unfolding freshGroup
 fresh-number number = ap (λ (g : Group). g .number) (fresh-group number)
 
-pub start-of : (number : ℕ) → start ours number ≡ of (asked number) (history.fresh number)
+pub start-of : (number : ℕ) → startFresh ours number ≡ of (asked number) (history.fresh number)
 unfolding freshGroup
 start-of number = ap (standing (freshAnswer number .group) (asked number) []) (sym (ap (λ (g : Group). g .closed) (fresh-group number)))
 
@@ -111,5 +111,5 @@ run-number (history.request kind n ∷ moves) r = run-number moves (step (histor
 run-number (history.close ∷ moves) r =
     run-number moves (step history.close r) ∙ close-cases (r .group) (λ (g : Group). g .number ≡ r .group .number) refl (λ l. closed-number (r .group))
 
-pub fresh-reach : (number : ℕ) (calls : List Call) → reach ours (start ours number) calls ≡ of (asked number) (history.reached number (moving calls))
+pub fresh-reach : (number : ℕ) (calls : List Call) → reach ours (startFresh ours number) calls ≡ of (asked number) (history.reached number (moving calls))
 fresh-reach number calls = ap (λ (x : Run Group). reach ours x calls) (start-of number) ∙ reach-moving (asked number) calls (history.fresh number)

@@ -31,7 +31,7 @@ use Rattle.history.specs.Strips.{stripOf}
 use Rattle.history.proofs.Gate as gate
 use Rattle.history.proofs.Later.{run-closed, run-strip, told-later}
 use Rattle.history.proofs.Runs.{run-append}
-use Rattle.demands.specs.Calls.{Call, Run, start, reach}
+use Rattle.demands.specs.Calls.{Call, Run, startFresh, reach}
 use Rattle.demands.specs.Gated.{strip, model, sheet}
 use Rattle.demands.specs.Ours.{ours}
 use Rattle.demands.proofs.Gates.{fresh-gated}
@@ -103,11 +103,11 @@ module _ (number : ℕ) (before next : List history.Move) (m s : ℕ) (h : m < m
 module _ (number : ℕ) (calls : List Call) (m s : ℕ) (h : m < models) (b : s < sheets) where
   -- where the calls lead
   abbrev stood : Run Group
-  stood = reach ours (start ours number) calls
+  stood = reach ours (startFresh ours number) calls
 
   -- what the gate did by then, as the list tells it after any further calls
   pub spans-are-reads : (others : List Call) (l : List Span)
-      → let last = reach ours (start ours number) (calls ++ others) in Spans (model last m) (sheet last s) (last .closed) l
+      → let last = reach ours (startFresh ours number) (calls ++ others) in Spans (model last m) (sheet last s) (last .closed) l
       → (readAnswer (stood .group) m s ≡ Granted) ↔ LiesIn (stood .closed) l
   spans-are-reads others l x =
       let whole : history.reached number (moving (calls ++ others)) ≡ run (moving others) (history.reached number (moving calls)) =

@@ -38,8 +38,8 @@ pub record Run (State : Type 0) : Type 0 where
 
 module _ {State : Type 0} (G : Gate State) where
   -- "It starts fresh with its number: no ticks closed, nobody in"; above 15 it is a fresh group 0
-  abbrev pub start : ℕ → Run State
-  start number = record { group = G .fresh number .group; number = cond (ltb number groups) number 0; closed = 0; events = [] }
+  abbrev pub startFresh : ℕ → Run State
+  startFresh number = record { group = G .fresh number .group; number = cond (ltb number groups) number 0; closed = 0; events = [] }
 
   -- a book's group: "T ticks closed and that group's number"; what it has accepted are the book's records
   abbrev pub startBook : List ℕ → List ℕ → Run State

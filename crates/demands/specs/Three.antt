@@ -10,9 +10,9 @@ use mathlib.Core.Path.{_≡_}
 use mathlib.Core.List.{List}
 use Prim.Native.Nat.{ℕ}
 use Rattle.demands.specs.Alike.{answersOf, Alike}
-use Rattle.demands.specs.Calls.{Call, start}
+use Rattle.demands.specs.Calls.{Call, startFresh}
 use Rattle.demands.specs.Gate.{Gate}
 
 abbrev pub DemandThree : {State : Type 0} → Gate State → Type 0
-DemandThree G = (number m : ℕ) (calls calls′ : List Call) → Alike G m (start G number) calls calls′
-    → answersOf G m (start G number) calls ≡ answersOf G m (start G number) calls′
+DemandThree G = (number m : ℕ) (calls calls′ : List Call) → Alike G m (startFresh G number) calls calls′
+    → answersOf G m (startFresh G number) calls ≡ answersOf G m (startFresh G number) calls′

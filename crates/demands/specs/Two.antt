@@ -21,7 +21,7 @@ use Rattle.judge.specs.Judge.{StripsAccepted}
 use Rattle.group.specs.declared.ReadAnswer.the-variants.{Granted}
 use Rattle.wire.specs.Word.{AllBytes}
 use Rattle.book.specs.Read.{ticksIn, countIn, numberIn, recordsIn}
-use Rattle.demands.specs.Calls.{Call, start, startBook, reach}
+use Rattle.demands.specs.Calls.{Call, startFresh, startBook, reach}
 use Rattle.demands.specs.Gate.{Gate}
 use Rattle.demands.specs.Gated.{Gated}
 
@@ -38,7 +38,7 @@ pub record DemandTwo {State : Type 0} (G : Gate State) : Type 0 where
   pub judge : (m s : List ℕ) (now : ℕ) → StripsAccepted m s now
       → (((x : Moment) × (G .judge m s now ≡ Judges x)) ↔ Grant (historyOf m) (historyOf s) now) × Judged (historyOf m) (historyOf s) now (G .judge m s now)
   -- from the running gate: of any group that calls have reached from fresh
-  pub gate : (number : ℕ) (calls : List Call) → Gated G (reach G (start G number) calls)
+  pub gate : (number : ℕ) (calls : List Call) → Gated G (reach G (startFresh G number) calls)
   -- the same from an accepted book, and any calls on the group that it was read into
   pub book : (b list : List ℕ) (calls : List Call) → G .readBook b list .code ≡ 0 → Gated G (reach G (startBook G b list) calls)
   -- "A written event book reads back as the same events"

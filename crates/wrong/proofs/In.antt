@@ -14,19 +14,19 @@ use Rattle.strip.specs.Good.{range}
 use Rattle.history.specs.Strips.{stripOf}
 use Rattle.history.proofs.Agreed.{reached-agrees}
 use Rattle.history.proofs.Sides.{even, inOn}
-use Rattle.demands.specs.Calls.{Call, request, close, read, count, deliver, Run, start, next, reach}
+use Rattle.demands.specs.Calls.{Call, request, close, read, count, deliver, Run, startFresh, next, reach}
 use Rattle.demands.specs.Gate.{Gate}
 use Rattle.demands.specs.Ours.{ours}
 use Rattle.demands.proofs.Gates.{fresh-gated}
 use Rattle.demands.proofs.Moving.{moving, fresh-reach}
-use Rattle.wrong.specs.Gates.{with}
+use Rattle.wrong.specs.Gates.{replacing}
 use Rattle.wrong.proofs.Story.{Turn, Told, callsOf, tellAll, allFit, begins, stands}
 
 -- a gate with our fresh groups, requests and closes
 module _ (reads : Group → ℕ → ℕ → ReadAnswer) (masks : List Group → ℕ → ℕ → MaskAnswer) (delivers : Group → ℕ → List ℕ → List ℕ → Delivery)
     (delivered : Group → ℕ → List ℕ → List ℕ → List ℕ) (judges : List ℕ → List ℕ → ℕ → Verdict) where
   abbrev pub moves : Gate Group
-  moves = with (ours .fresh) (ours .request) (ours .close) reads masks delivers delivered judges
+  moves = replacing (ours .fresh) (ours .request) (ours .close) reads masks delivers delivered judges
 
   pub same-reach : (calls : List Call) (r : Run Group) → reach moves r calls ≡ reach ours r calls
   unfolding reach next
@@ -39,13 +39,13 @@ module _ (reads : Group → ℕ → ℕ → ReadAnswer) (masks : List Group → 
 
   -- in after an odd number of events
   pub in-after : (story : List Turn) → allFit begins story ≡ true → (side : Side) (n : ℕ) → n < range side
-      → let x = tellAll begins story in inOn side (reach moves (start moves 0) (callsOf story) .group) n ≡ not (even (length (stripOf side n (x .closed) (x .events))))
+      → let x = tellAll begins story in inOn side (reach moves (startFresh moves 0) (callsOf story) .group) n ≡ not (even (length (stripOf side n (x .closed) (x .events))))
   in-after story fine side n l =
       let calls = callsOf story in
-      let r : Run Group = reach ours (start ours 0) calls in
+      let r : Run Group = reach ours (startFresh ours 0) calls in
       let here : inOn side (r .group) n ≡ not (even (length (stripOf side n (r .closed) (r .events)))) =
       subst (λ (y : Run Group). inOn side (y .group) n ≡ not (even (length (stripOf side n (y .closed) (y .events))))) (sym (fresh-reach 0 calls))
       (reached-agrees 0 (moving calls) .carried side n l .alternates) in
       let told = stands ours 0 (fresh-gated 0) story fine in
-      subst (λ (y : Run Group). inOn side (y .group) n ≡ not (even (length (stripOf side n (tellAll begins story .closed) (tellAll begins story .events))))) (sym (same-reach calls (start ours 0)))
+      subst (λ (y : Run Group). inOn side (y .group) n ≡ not (even (length (stripOf side n (tellAll begins story .closed) (tellAll begins story .events))))) (sym (same-reach calls (startFresh ours 0)))
       (here ∙ ap₂ (λ (k : ℕ) (ws : List ℕ). not (even (length (stripOf side n k ws)))) (told .0) (told .1))

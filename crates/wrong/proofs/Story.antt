@@ -22,7 +22,7 @@ use Rattle.strip.specs.History.{historyOf}
 use Rattle.strip.proofs.Bad.{all-good}
 use Rattle.history.specs.Strips.{stripOf}
 use Rattle.history.specs.WellFormed.{sideOf, WellFormed}
-use Rattle.demands.specs.Calls.{Call, request, close, Run, start, next, reach}
+use Rattle.demands.specs.Calls.{Call, request, close, Run, startFresh, next, reach}
 use Rattle.demands.specs.Gate.{Gate}
 use Rattle.demands.specs.Gated.{Granting, Gated}
 
@@ -83,7 +83,7 @@ well-formed x kind n t =
       good = all-good (sideOf kind) (x .closed + 1) s (leb-true (length s) (firstBad (sideOf kind) (x .closed + 1) s) (a .1));
     }
 
-module _ {State : Type 0} (G : Gate State) (number : ℕ) (gated : (calls : List Call) → Gated G (reach G (start G number) calls)) where
+module _ {State : Type 0} (G : Gate State) (number : ℕ) (gated : (calls : List Call) → Gated G (reach G (startFresh G number) calls)) where
   -- where the run stands is what was told
   abbrev At : Run State → Told → Type 0
   At r x = (r .closed ≡ x .closed) × (r .events ≡ x .events)
@@ -92,9 +92,11 @@ module _ {State : Type 0} (G : Gate State) (number : ℕ) (gated : (calls : List
   unfolding next
   at-next r x (ask kind n) g a t =
       let well = subst (λ (k : ℕ). WellFormed k (r .events) kind n) (sym (a .0)) (subst (λ (l : List ℕ). WellFormed (x .closed) l kind n) (sym (a .1)) (well-formed x kind n t)) in
-      let code : eqb (G .request (r .group) kind n .code) 0 ≡ true = eq-eqb _ _ (g .accepts kind n .1 well) in
-      (a .0, ap (λ (b : Bool). cond b (r .events ++ (wordOf (r .closed + 1) kind n ∷ [])) (r .events)) code
-      ∙ ap₂ (λ (l : List ℕ) (k : ℕ). l ++ (wordOf (k + 1) kind n ∷ [])) (a .1) (a .0))
+      let code : eqb (G .request (r .group) kind n .code) 0 ≡ true = eq-eqb _ _ (g .accepts kind n .1 well) in (
+        a .0,
+        ap (λ (b : Bool). cond b (r .events ++ (wordOf (r .closed + 1) kind n ∷ [])) (r .events)) code
+            ∙ ap₂ (λ (l : List ℕ) (k : ℕ). l ++ (wordOf (k + 1) kind n ∷ [])) (a .1) (a .0),
+      )
   at-next r x tick g a t =
       (ap (λ (k : ℕ). cond (ltb k ticks) (k + 1) k) (a .0) ∙ ap (λ (b : Bool). cond b (x .closed + 1) (x .closed)) t, a .1)
 
@@ -103,24 +105,24 @@ module _ {State : Type 0} (G : Gate State) (number : ℕ) (gated : (calls : List
   reach-more [] c r = refl
   reach-more (d ∷ before) c r = reach-more before c (next G r d)
 
-  at-all : (story : List Turn) (before : List Call) (x : Told) → At (reach G (start G number) before) x → allFit x story ≡ true
-      → At (reach G (start G number) (before ++ callsOf story)) (tellAll x story)
+  at-all : (story : List Turn) (before : List Call) (x : Told) → At (reach G (startFresh G number) before) x → allFit x story ≡ true
+      → At (reach G (startFresh G number) (before ++ callsOf story)) (tellAll x story)
   unfolding tellAll allFit callsOf
-  at-all [] before x a t = subst (λ (l : List Call). At (reach G (start G number) l) x) (sym (append-nil before)) a
+  at-all [] before x a t = subst (λ (l : List Call). At (reach G (startFresh G number) l) x) (sym (append-nil before)) a
     where
       append-nil : (l : List Call) → l ++ [] ≡ l
       append-nil [] = refl
       append-nil (y ∷ l) = ap (λ (k : List Call). y ∷ k) (append-nil l)
   at-all (c ∷ story) before x a t =
       let b = both (fits x c) (allFit (tell x c) story) t in
-      let here = at-next (reach G (start G number) before) x c (gated before) a (b .0) in
-      let more = subst (λ (r : Run State). At r (tell x c)) (sym (reach-more before (call c) (start G number))) here in
-      subst (λ (l : List Call). At (reach G (start G number) l) (tellAll (tell x c) story)) (append-assoc before (call c ∷ []) (callsOf story))
+      let here = at-next (reach G (startFresh G number) before) x c (gated before) a (b .0) in
+      let more = subst (λ (r : Run State). At r (tell x c)) (sym (reach-more before (call c) (startFresh G number))) here in
+      subst (λ (l : List Call). At (reach G (startFresh G number) l) (tellAll (tell x c) story)) (append-assoc before (call c ∷ []) (callsOf story))
       (at-all story (before ++ (call c ∷ [])) (tell x c) more (b .1))
 
   module _ (story : List Turn) (fine : allFit begins story ≡ true) where
     abbrev pub end : Run State
-    end = reach G (start G number) (callsOf story)
+    end = reach G (startFresh G number) (callsOf story)
 
     pub stands : At end (tellAll begins story)
     unfolding reach

@@ -38,7 +38,7 @@ use Rattle.group.proofs.Request.{bit-marked, request-keeps}
 use Rattle.history.specs.Strips.{keep}
 use Rattle.history.proofs.Answers.{read-granted}
 use Rattle.demands.specs.Alike.{shared, answersOf, Alike, done, both, stores, left, right}
-use Rattle.demands.specs.Calls.{Call, request, close, read, count, deliver, Answer, coded, shown, delivered, answerTo, Run, start, startBook, next, reach}
+use Rattle.demands.specs.Calls.{Call, request, close, read, count, deliver, Answer, coded, shown, delivered, answerTo, Run, startFresh, startBook, next, reach}
 use Rattle.demands.specs.Delivered.{partsOf, partsIn, flatParts}
 use Rattle.demands.specs.Gated.{Gated}
 use Rattle.demands.specs.One.{DemandOne}
@@ -48,7 +48,7 @@ use Rattle.demands.specs.Ours.{ours}
 use Rattle.demands.specs.Refusals.{refusedDelivery}
 use Rattle.demands.proofs.One.{demand-one}
 use Rattle.demands.proofs.Two.{demand-two}
-use Rattle.wrong.specs.Gates.{taken, counted, unsaid, padded, hidden, refusesAll, deniesAll, idle, counting, frozen, late, nameless, leak, unsaying, telling, overhanging, storing, undelivering, inventing, padding}
+use Rattle.wrong.specs.Gates.{taken, oneMore, unsaid, padded, hidden, refusesAll, deniesAll, idle, counting, frozen, late, nameless, leak, unsaying, telling, overhanging, storing, undelivering, inventing, padding}
 use Rattle.wrong.proofs.Story.{Turn, ask, tick, begins, tellAll, allFit, callsOf, tests, well-formed, does-grant, grants-not}
 use Rattle.wrong.proofs.In.{same-reach, in-after}
 use Rattle.wrong.proofs.Fresh.{nobody, store, fresh-delivers, fresh-buffer}
@@ -132,9 +132,9 @@ freezes d =
     let g2 = requestAnswer g1 LA 0 .group in
     let once : g2 .closed ≡ 1 = d .gate 0 (close ∷ request LJ 0 ∷ request LA 0 ∷ []) .closed in
     let later : eqb (g2 .closed) 0 ≡ false = ne-eqb (g2 .closed) 0 (λ e. absurd (omega arith)) in
-    let end : Group = cond (eqb (g2 .closed) 0) (ours .close g2) (taken (counted g2)) .group in
+    let end : Group = cond (eqb (g2 .closed) 0) (ours .close g2) (taken (oneMore g2)) .group in
     let same : end .grants ≡ g0 .grants =
-    ap (λ (b : Bool). cond b (ours .close g2) (taken (counted g2)) .group .grants) later ∙ request-keeps g1 LA 0 .grants ∙ request-keeps g0 LJ 0 .grants in
+    ap (λ (b : Bool). cond b (ours .close g2) (taken (oneMore g2)) .group .grants) later ∙ request-keeps g1 LA 0 .grants ∙ request-keeps g0 LJ 0 .grants in
     let granting = does-grant frozen 0 (d .gate 0) second second-fits 0 0 second-grants in
     let read = d .gate 0 (callsOf second) .read 0 0 (omega arith) (omega arith) .1 granting in
     let bit-on : granted (end .grants) 0 0 ≡ true = read-granted end 0 0 (omega arith) (omega arith) .0 read in
@@ -175,8 +175,8 @@ leaks : DemandTwo leak → ⊥
 unfolding keep tellAll
 leaks d =
     let into = in-after (leak .read) (leak .mask) (leak .deliver) (leak .delivered) (leak .judge) leaking leaking-fits in
-    let model : modelIn (reach leak (start leak 0) (callsOf leaking) .group) 0 ≡ true = into Model 0 (omega arith) in
-    let sheet : sheetIn (reach leak (start leak 0) (callsOf leaking) .group) 0 ≡ true = into Sheet 0 (omega arith) in
+    let model : modelIn (reach leak (startFresh leak 0) (callsOf leaking) .group) 0 ≡ true = into Model 0 (omega arith) in
+    let sheet : sheetIn (reach leak (startFresh leak 0) (callsOf leaking) .group) 0 ≡ true = into Sheet 0 (omega arith) in
     grants-not leak 0 (d .gate 0) leaking leaking-fits 0 0 leaking-grants
     (d .gate 0 (callsOf leaking) .read 0 0 (omega arith) (omega arith) .0 (simp (model, sheet)))
 
@@ -251,7 +251,7 @@ unfolding reach next callsOf keep tellAll shared answersOf answerTo
 tells d =
     let into = in-after (telling .read) (telling .mask) (telling .deliver) (telling .delivered) (telling .judge) in
     let asks = close ∷ read 0 256 ∷ [] in
-    let alike : Alike telling 0 (start telling 0) (request SJ 5 ∷ asks) asks = left refl (both refl (both refl done)) in
+    let alike : Alike telling 0 (startFresh telling 0) (request SJ 5 ∷ asks) asks = left refl (both refl (both refl done)) in
     let g = closeAnswer (requestAnswer (freshAnswer 0 .group) SJ 5 .group) .group in
     let h = closeAnswer (freshAnswer 0 .group) .group in
     let there : modelIn g 5 ≡ true = into (ask SJ 5 ∷ tick ∷ []) joined-fits Model 5 (omega arith) in
@@ -284,7 +284,7 @@ meets-two =
     let same = same-reach (telling .read) (telling .mask) (telling .deliver) (telling .delivered) (telling .judge) in
     record {
       judge = demand-two .judge;
-      gate = λ number calls. subst (Gated telling) (sym (same calls (start ours number))) (telling-gated _ (demand-two .gate number calls));
+      gate = λ number calls. subst (Gated telling) (sym (same calls (startFresh ours number))) (telling-gated _ (demand-two .gate number calls));
       book = λ b list calls e. subst (Gated telling) (sym (same calls (startBook ours b list))) (telling-gated _ (demand-two .book b list calls e));
       written = λ T number ws buffer list e fits.
           let x = demand-two .written T number ws buffer list e fits in
@@ -328,7 +328,7 @@ module _ (m : ℕ) where
   constant-alike (right {r} {c} {calls} {calls′} s a) y = constant-alike a (next refusesAll y c) ∙ sym (passed-over c calls′ y s)
 
 constant-three : DemandThree refusesAll
-constant-three number m calls calls′ a = constant-alike m a (start refusesAll number)
+constant-three number m calls calls′ a = constant-alike m a (startFresh refusesAll number)
 
 -- ---- all of them
 

@@ -24,9 +24,9 @@ use Rattle.demands.specs.Gate.{Left, Gate}
 use Rattle.demands.specs.Ours.{ours}
 
 -- our gate with some of its calls replaced
-abbrev pub with : (ℕ → Left Group) → (Group → ℕ → ℕ → Left Group) → (Group → Left Group) → (Group → ℕ → ℕ → ReadAnswer) → (List Group → ℕ → ℕ → MaskAnswer)
+abbrev pub replacing : (ℕ → Left Group) → (Group → ℕ → ℕ → Left Group) → (Group → Left Group) → (Group → ℕ → ℕ → ReadAnswer) → (List Group → ℕ → ℕ → MaskAnswer)
     → (Group → ℕ → List ℕ → List ℕ → Delivery) → (Group → ℕ → List ℕ → List ℕ → List ℕ) → (List ℕ → List ℕ → ℕ → Verdict) → Gate Group
-with fresh request close read mask deliver delivered judge = record {
+replacing fresh request close read mask deliver delivered judge = record {
   number = ours .number;
   closed = ours .closed;
   fresh = fresh;
@@ -82,15 +82,15 @@ refusesAll = record {
 
 -- a judge that always denies
 abbrev pub deniesAll : Gate Group
-deniesAll = with (ours .fresh) (ours .request) (ours .close) (ours .read) (ours .mask) (ours .deliver) (ours .delivered) (λ m s now. verdict.Denied None)
+deniesAll = replacing (ours .fresh) (ours .request) (ours .close) (ours .read) (ours .mask) (ours .deliver) (ours .delivered) (λ m s now. verdict.Denied None)
 
 -- a close that does nothing
 abbrev pub idle : Gate Group
-idle = with (ours .fresh) (ours .request) taken (ours .read) (ours .mask) (ours .deliver) (ours .delivered) (ours .judge)
+idle = replacing (ours .fresh) (ours .request) taken (ours .read) (ours .mask) (ours .deliver) (ours .delivered) (ours .judge)
 
 -- the group with one tick more closed, and all else as it was
-abbrev pub counted : Group → Group
-counted g = record {
+abbrev pub oneMore : Group → Group
+oneMore g = record {
   number = g .number;
   closed = g .closed + 1;
   members = g .members;
@@ -109,11 +109,11 @@ counted g = record {
 
 -- a close that counts the tick, and does nothing else
 abbrev pub counting : Gate Group
-counting = with (ours .fresh) (ours .request) (λ g. taken (counted g)) (ours .read) (ours .mask) (ours .deliver) (ours .delivered) (ours .judge)
+counting = replacing (ours .fresh) (ours .request) (λ g. taken (oneMore g)) (ours .read) (ours .mask) (ours .deliver) (ours .delivered) (ours .judge)
 
--- right in the first tick; later ticks are counted, and nothing else happens
+-- right in the first tick; later ticks are oneMore, and nothing else happens
 abbrev pub frozen : Gate Group
-frozen = with (ours .fresh) (ours .request) (λ g. cond (eqb (g .closed) 0) (ours .close g) (taken (counted g))) (ours .read) (ours .mask) (ours .deliver) (ours .delivered) (ours .judge)
+frozen = replacing (ours .fresh) (ours .request) (λ g. cond (eqb (g .closed) 0) (ours .close g) (taken (oneMore g))) (ours .read) (ours .mask) (ours .deliver) (ours .delivered) (ours .judge)
 
 -- keeps the group as it was before the last close, and shows that one: late by one tick
 pub record Late : Type 0 where
@@ -148,13 +148,13 @@ late = record {
 
 -- every fresh group is group 0
 abbrev pub nameless : Gate Group
-nameless = with (λ number. ours .fresh 0) (ours .request) (ours .close) (ours .read) (ours .mask) (ours .deliver) (ours .delivered) (ours .judge)
+nameless = replacing (λ number. ours .fresh 0) (ours .request) (ours .close) (ours .read) (ours .mask) (ours .deliver) (ours .delivered) (ours .judge)
 
 -- ---- reads
 
 -- our leak: whoever is in today is granted what is in today
 abbrev pub leak : Gate Group
-leak = with (ours .fresh) (ours .request) (ours .close) (λ g m s. cond (modelIn g m && sheetIn g s) Granted Denied) (ours .mask) (ours .deliver) (ours .delivered) (ours .judge)
+leak = replacing (ours .fresh) (ours .request) (ours .close) (λ g m s. cond (modelIn g m && sheetIn g s) Granted Denied) (ours .mask) (ours .deliver) (ours .delivered) (ours .judge)
 
 -- denies by a refusal with number 0
 abbrev pub unsaid : ReadAnswer → ReadAnswer
@@ -163,34 +163,34 @@ unsaid Denied = Refused 0
 unsaid (Refused n) = Refused n
 
 abbrev pub unsaying : Gate Group
-unsaying = with (ours .fresh) (ours .request) (ours .close) (λ g m s. unsaid (ours .read g m s)) (ours .mask) (ours .deliver) (ours .delivered) (ours .judge)
+unsaying = replacing (ours .fresh) (ours .request) (ours .close) (λ g m s. unsaid (ours .read g m s)) (ours .mask) (ours .deliver) (ours .delivered) (ours .judge)
 
 -- answers a sheet out of range by one number more where model 5 is in
 abbrev pub telling : Gate Group
-telling = with (ours .fresh) (ours .request) (ours .close)
+telling = replacing (ours .fresh) (ours .request) (ours .close)
     (λ g m s. cond (leb sheets s) (Refused (cond (modelIn g 5) (badNumber + 1) badNumber)) (ours .read g m s))
     (ours .mask) (ours .deliver) (ours .delivered) (ours .judge)
 
 -- a mask with a bit past the list's end
 abbrev pub overhanging : Gate Group
-overhanging = with (ours .fresh) (ours .request) (ours .close) (ours .read) (λ gs m s. record { code = 0; mask = 2 ^ length gs }) (ours .deliver) (ours .delivered) (ours .judge)
+overhanging = replacing (ours .fresh) (ours .request) (ours .close) (ours .read) (λ gs m s. record { code = 0; mask = 2 ^ length gs }) (ours .deliver) (ours .delivered) (ours .judge)
 
 -- ---- refusals
 
 -- a refused request is marked all the same
 abbrev pub storing : Gate Group
-storing = with (ours .fresh) (λ g kind n. record { code = ours .request g kind n .code; place = 0; group = markedGroup g kind n }) (ours .close) (ours .read) (ours .mask)
+storing = replacing (ours .fresh) (λ g kind n. record { code = ours .request g kind n .code; place = 0; group = markedGroup g kind n }) (ours .close) (ours .read) (ours .mask)
     (ours .deliver) (ours .delivered) (ours .judge)
 
 -- ---- deliveries
 
 -- refuses every delivery, by number 0
 abbrev pub undelivering : Gate Group
-undelivering = with (ours .fresh) (ours .request) (ours .close) (ours .read) (ours .mask) (λ g m store out. delivery.Refused 0 0) (λ g m store out. out) (ours .judge)
+undelivering = replacing (ours .fresh) (ours .request) (ours .close) (ours .read) (ours .mask) (λ g m store out. delivery.Refused 0 0) (λ g m store out. out) (ours .judge)
 
 -- says one sheet more than there is
 abbrev pub inventing : Gate Group
-inventing = with (ours .fresh) (ours .request) (ours .close) (ours .read) (ours .mask) (ours .deliver)
+inventing = replacing (ours .fresh) (ours .request) (ours .close) (ours .read) (ours .mask) (ours .deliver)
     (λ g m store out. bytes32 (le32 (ours .delivered g m store out) 0 + 1) ++ drop 4 (ours .delivered g m store out)) (ours .judge)
 
 -- hides four bytes behind the last part, and counts them in the total
@@ -203,6 +203,6 @@ hidden (delivery.Delivered n) made out = take 4 made ++ (bytes32 (n + 4) ++ (tak
 hidden (delivery.Refused number place) made out = out
 
 abbrev pub padding : Gate Group
-padding = with (ours .fresh) (ours .request) (ours .close) (ours .read) (ours .mask)
+padding = replacing (ours .fresh) (ours .request) (ours .close) (ours .read) (ours .mask)
     (λ g m store out. padded (ours .deliver g m store (drop 4 out)))
     (λ g m store out. hidden (ours .deliver g m store (drop 4 out)) (ours .delivered g m store (drop 4 out)) out) (ours .judge)
