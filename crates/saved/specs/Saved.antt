@@ -1,0 +1,47 @@
+-- What is saved, and what it is for it to be right.
+use mathlib.Core.Path.{_≡_}
+use mathlib.Core.Bool.{true}
+use mathlib.Core.List.{List}
+use Prim.Native.Nat.{ℕ, _≤_, _<_}
+use lib.Dec.{eqb, leb}
+use lib.ListN.{length}
+use Rattle.rules.specs.Ranges.{events}
+use Rattle.rules.specs.Refusals.{badHeader}
+use Rattle.event.specs.Word.{tickOf}
+use Rattle.group.specs.declared.Group.{Group}
+use Rattle.history.specs.Run.{Reached}
+use Rattle.history.specs.Strips.{keep}
+use Rattle.book.specs.Book.{Holds, lengthOf}
+use Rattle.book.specs.Tick.{rising}
+use Rattle.book.specs.Write.{bookWritten, bufferWritten}
+use Rattle.kept.specs.Kept.{closedEvents}
+use Rattle.saved.specs.Keeping.{Keeping}
+
+-- the words that a save hands to the writer
+abbrev pub savedOf : Keeping → List ℕ
+savedOf k = closedEvents (k .list) (k .kept)
+
+-- the events of the ticks up to T, in their order
+abbrev pub upTo : ℕ → List ℕ → List ℕ
+upTo T ws = keep (λ w. leb (tickOf w) T) ws
+
+-- how often a word stands in a list
+abbrev pub howOften : ℕ → List ℕ → ℕ
+howOften w ws = length (keep (λ v. eqb v w) ws)
+
+-- the words are these events in book order: each word is greater than the one before, and stands there as often as among the events: once, or not
+pub record InBookOrder (events ws : List ℕ) : Type 0 where
+  pub rises : rising ws ≡ true
+  pub each : (w : ℕ) → howOften w ws ≡ howOften w events
+
+-- the events accepted in the ticks that are closed
+abbrev pub closedOnes : Reached → List ℕ
+closedOnes r = upTo (r .group .closed) (r .events)
+
+-- what the keeper holds beside what its calls reach: the same group; and of the accepted events of closed ticks, where a book can hold as many, it hands
+-- exactly these to the writer, in book order, and they are well-formed; where there are more, the writer refuses what it hands over by 22
+pub record Saves (r : Reached) (k : Keeping) : Type 0 where
+  pub group : k .group ≡ r .group
+  pub these : length (closedOnes r) ≤ events → InBookOrder (closedOnes r) (savedOf k)
+  pub holds : length (closedOnes r) ≤ events → Holds (r .group .closed) (r .group .number) (savedOf k)
+  pub toomany : events < length (closedOnes r) → (room : ℕ) → bookWritten (r .group .closed) (r .group .number) (savedOf k) room .code ≡ badHeader
