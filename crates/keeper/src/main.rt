@@ -226,7 +226,7 @@ fn converse(
 
 fn keep_group(out: &mut [u8]) {
     let mut buffer = [0u8; 65536];
-    let mut events = [0u32; kept::ROOM];
+    let mut events = kept::space();
     let mut sheets = store_space();
     let mut bytes = delivery_space();
     let start = Done {

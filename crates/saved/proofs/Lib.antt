@@ -3,6 +3,7 @@ pub mod Follows
 pub mod Formed
 pub mod Lasts
 pub mod Loaded
+pub mod Once
 pub mod Order
 pub mod Ordered
 pub mod Promise

@@ -32,7 +32,7 @@ use Rattle.kept.specs.Inserted.{placeOf, inserted}
 use Rattle.kept.specs.Kept.{recordsOf, startedWith}
 use Rattle.kept.proofs.Among.{place, place-inside, place-behind}
 use Rattle.saved.specs.Keeping.{freshKeeping, bookKeeping}
-use Rattle.saved.specs.Saved.{upTo}
+use Rattle.saved.specs.Saved.{upTo, bookReached}
 use Rattle.saved.proofs.Order.{inOrder, order-more}
 use Rattle.saved.proofs.Follows.{Front, Follows}
 use Rattle.saved.proofs.Steps.{Tied, ordered, run-tied, fresh-tied}
@@ -99,6 +99,11 @@ module _ (b list : List ℕ) (e : bookRead b (length list) .code ≡ 0) where
 
   events-are : told .events ≡ ws
   events-are = ap (λ (r : Reached). r .events) told-is
+
+  -- it is what the book reaches
+  pub book-reached : bookReached b list ≡ told
+  book-reached =
+      ap₂ (λ (g : Group) (es : List ℕ). record { group = g; events = es }) (ap (λ (r : BookRead). r .group) (good-read b list (read-code b (length list) e) formed)) (sym events-are)
 
   order-is : ordered told ≡ ws
   order-is = ap (inOrder []) events-are ∙ order-formed T ws formed

@@ -33,7 +33,7 @@ module _ (p : ℕ → Bool) where
   passing-append : (xs ys : List ℕ) → passing (xs ++ ys) ≡ passing xs + passing ys
   passing-append xs ys = ap length (keep-append p xs ys) ∙ length-append (keep p xs) (keep p ys)
 
-  passing-one : (x : ℕ) (ws : List ℕ) → passing (x ∷ ws) ≡ cond (p x) 1 0 + passing ws
+  pub passing-one : (x : ℕ) (ws : List ℕ) → passing (x ∷ ws) ≡ cond (p x) 1 0 + passing ws
   unfolding keep
   passing-one x ws = ⊎-elim
       (λ (t : p x ≡ true). simp t (omega arith))

@@ -31,11 +31,11 @@ use Rattle.book.proofs.Accepted.{good-write}
 use Rattle.book.proofs.Promise.{ReadBack, formed-rises, write-then-read}
 use Rattle.kept.specs.Kept.{room}
 use Rattle.saved.specs.Keeping.{Keeping, keepRun, freshKeeping, bookKeeping}
-use Rattle.saved.specs.Saved.{savedOf, upTo, InBookOrder, closedOnes, Saves}
+use Rattle.saved.specs.Saved.{savedOf, upTo, bookReached, closedOnes, Saves}
 use Rattle.saved.proofs.Formed.{formed-front}
 use Rattle.saved.proofs.Order.{inOrder, passing-ordered, each-ordered}
 use Rattle.saved.proofs.Steps.{Tied, ordered, run-tied, fresh-tied}
-use Rattle.saved.proofs.Loaded.{book-tied}
+use Rattle.saved.proofs.Loaded.{book-reached, book-tied}
 
 -- ---- the number
 
@@ -114,7 +114,7 @@ module _ (number : ℕ) (calls : List Call) (k : Keeping) (N : ℕ) (enough : ro
           few = omega arith;
           formed = these-formed;
         });
-        toomany = λ h space. many-refused T (r .group .number) (savedOf k) space (saved-long (omega arith));
+        too-many = λ h space. many-refused T (r .group .number) (savedOf k) space (saved-long (omega arith));
       }
 
 -- ---- 1. From a fresh group.
@@ -129,13 +129,15 @@ fresh-saves number calls list enough =
 -- ---- 2. From an accepted book.
 
 -- The same after any calls on the group of an accepted book: its records are events of closed ticks, and what is accepted comes after them.
-pub book-saves : (b list : List ℕ) (calls : List Call) → room ≤ length list → bookRead b (length list) .code ≡ 0
-    → Saves (reached (numberIn b) (bookCalls (recordsIn b) (ticksIn b) ++ calls)) (keepRun calls (bookKeeping b list))
-book-saves b list calls enough e =
+pub book-saves : (b list : List ℕ) → bookRead b (length list) .code ≡ 0 → (calls : List Call) → room ≤ length list
+    → Saves (run calls (bookReached b list)) (keepRun calls (bookKeeping b list))
+book-saves b list e calls enough =
     let before = bookCalls (recordsIn b) (ticksIn b) in
-    let all = reached-append (numberIn b) before calls in
-    tied-saves (numberIn b) (before ++ calls) (keepRun calls (bookKeeping b list)) (length list) enough
-    (rw all (run-tied (length list) calls (reached (numberIn b) before) (bookKeeping b list) (book-tied b list e)))
+    let told : run calls (bookReached b list) ≡ reached (numberIn b) (before ++ calls) =
+    ap (run calls) (book-reached b list e) ∙ sym (reached-append (numberIn b) before calls) in
+    let tied = run-tied (length list) calls (reached (numberIn b) before) (bookKeeping b list) (book-tied b list e) in
+    rw told (tied-saves (numberIn b) (before ++ calls) (keepRun calls (bookKeeping b list)) (length list) enough
+    (rw (reached-append (numberIn b) before calls) tied))
 
 -- ---- 3. The file.
 

@@ -8,12 +8,12 @@ use lib.ListN.{length}
 use Rattle.rules.specs.Ranges.{events}
 use Rattle.rules.specs.Refusals.{badHeader}
 use Rattle.event.specs.Word.{tickOf}
-use Rattle.group.specs.declared.Group.{Group}
 use Rattle.history.specs.Run.{Reached}
 use Rattle.history.specs.Strips.{keep}
-use Rattle.book.specs.Book.{Holds, lengthOf}
+use Rattle.book.specs.Book.{Holds}
+use Rattle.book.specs.Read.{recordsIn, bookRead}
 use Rattle.book.specs.Tick.{rising}
-use Rattle.book.specs.Write.{bookWritten, bufferWritten}
+use Rattle.book.specs.Write.{bookWritten}
 use Rattle.kept.specs.Kept.{closedEvents}
 use Rattle.saved.specs.Keeping.{Keeping}
 
@@ -34,6 +34,10 @@ pub record InBookOrder (events ws : List ℕ) : Type 0 where
   pub rises : rising ws ≡ true
   pub each : (w : ℕ) → howOften w ws ≡ howOften w events
 
+-- what an accepted book reaches: its group, and its records as the events accepted so far
+abbrev pub bookReached : List ℕ → List ℕ → Reached
+bookReached b list = record { group = bookRead b (length list) .group; events = recordsIn b }
+
 -- the events accepted in the ticks that are closed
 abbrev pub closedOnes : Reached → List ℕ
 closedOnes r = upTo (r .group .closed) (r .events)
@@ -44,4 +48,4 @@ pub record Saves (r : Reached) (k : Keeping) : Type 0 where
   pub group : k .group ≡ r .group
   pub these : length (closedOnes r) ≤ events → InBookOrder (closedOnes r) (savedOf k)
   pub holds : length (closedOnes r) ≤ events → Holds (r .group .closed) (r .group .number) (savedOf k)
-  pub toomany : events < length (closedOnes r) → (room : ℕ) → bookWritten (r .group .closed) (r .group .number) (savedOf k) room .code ≡ badHeader
+  pub too-many : events < length (closedOnes r) → (room : ℕ) → bookWritten (r .group .closed) (r .group .number) (savedOf k) room .code ≡ badHeader
