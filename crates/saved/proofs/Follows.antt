@@ -1,8 +1,8 @@
 -- What the keeper holds, beside a group and its accepted events in book order: where its list has room for them they are its first words, and where
 -- it hasn't it is full; and likewise those of closed ticks. True at a start, and kept by every call. Assumes nothing.
-use mathlib.Core.Path.{_≡_, refl, sym, ap, _∙_}
+use mathlib.Core.Path.{_≡_, ap, _∙_}
 use mathlib.Core.Bool.{true, false}
-use mathlib.Core.List.{List, [], _++_}
+use mathlib.Core.List.{List, _++_}
 use mathlib.Core.Logic.{⊎-elim}
 use Prim.Native.Nat.{ℕ, suc, _+_, _≤_, _<_}
 use native.Mathlib.Omega.{arith}
@@ -14,8 +14,6 @@ use Rattle.base.proofs.Truth.{either}
 use Rattle.rules.specs.Ranges.{ticks}
 use Rattle.event.specs.Word.{tickOf, kindOf, numberOf}
 use Rattle.group.specs.Accepted.{Accepted}
-use Rattle.group.specs.Close.{closedGroup}
-use Rattle.group.specs.Request.{markedGroup}
 use Rattle.group.specs.declared.Group.{Group}
 use Rattle.kept.specs.Inserted.{inserted, insertedList, insertedCount}
 use Rattle.kept.specs.Kept.{startedWith}

@@ -17,7 +17,7 @@ use Rattle.book.specs.Records.{outside, notGreater, carrierOf, lastOf, breaks, 
 use Rattle.book.proofs.Pass.{Inside, Good, good}
 use Rattle.book.proofs.Part.{climb}
 use Rattle.book.proofs.Promise.{formed-rises}
-use Rattle.kept.specs.Inserted.{placeOf, inserted}
+use Rattle.kept.specs.Inserted.{inserted}
 use Rattle.kept.proofs.Among.{place, place-inside, place-from, place-last, at-before, at-place, at-behind, length-inserted}
 use Rattle.saved.proofs.Lasts.{last-same, last-before, last-other, last-stays}
 

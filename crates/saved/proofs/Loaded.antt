@@ -4,21 +4,20 @@ use mathlib.Core.Path.{_≡_, refl, sym, ap, ap₂, _∙_}
 use mathlib.Core.Bool.{true, false}
 use mathlib.Core.List.{List, [], _∷_, _++_}
 use mathlib.Core.Logic.{⊎-elim}
-use Prim.Native.Nat.{ℕ, zero, suc, _+_, _-_, _*_, _/_, _≤_, _<_}
+use Prim.Native.Nat.{ℕ, zero, suc, _+_, _-_, _≤_, _<_}
 use native.Mathlib.Nat.{eq-zero-or-pos, le-refl}
 use native.Mathlib.Omega.{arith}
 use lib.Dec.{ltb, leb}
 use lib.ListN.{length, getD, take, drop, length-append, length-drop}
 use lib.Seq.{take-suc, take-length, drop-length, length-take-le, getD-take, take-append-seam}
-use borrow.Author.Tests.{ltb-true, ltb-false, le-leb}
+use borrow.Author.Tests.{ltb-false, le-leb}
 use Rattle.base.proofs.Truth.{either}
-use Rattle.rules.specs.Ranges.{bookHeader}
 use Rattle.event.specs.Word.{tickOf}
 use Rattle.wire.proofs.Words.{length-words}
 use Rattle.group.specs.declared.Group.{Group}
 use Rattle.history.specs.Run.{Reached, fresh, reached}
 use Rattle.history.proofs.Keep.{keep-all}
-use Rattle.book.specs.Calls.{bookCalls, groupOf}
+use Rattle.book.specs.Calls.{bookCalls}
 use Rattle.book.specs.Read.{ticksIn, countIn, numberIn, recordsIn, bookRead, listRead}
 use Rattle.book.specs.Records.{WellFormed}
 use Rattle.book.specs.Replay.{counted, closedUpTo, replayedGroup}
@@ -28,13 +27,13 @@ use Rattle.book.proofs.Part.{climb}
 use Rattle.book.proofs.Pass.{good}
 use Rattle.book.proofs.Promise.{formed-rises}
 use Rattle.book.proofs.Replaying.{replay-reached}
-use Rattle.kept.specs.Inserted.{placeOf, inserted}
-use Rattle.kept.specs.Kept.{recordsOf, startedWith}
+use Rattle.kept.specs.Inserted.{inserted}
+use Rattle.kept.specs.Kept.{recordsOf}
 use Rattle.kept.proofs.Among.{place, place-inside, place-behind}
 use Rattle.saved.specs.Keeping.{freshKeeping, bookKeeping}
 use Rattle.saved.specs.Saved.{upTo, bookReached}
 use Rattle.saved.proofs.Order.{inOrder, order-more}
-use Rattle.saved.proofs.Follows.{Front, Follows}
+use Rattle.saved.proofs.Follows.{Front}
 use Rattle.saved.proofs.Steps.{Tied, ordered, run-tied, fresh-tied}
 
 -- ---- words that rise are in order

@@ -2,7 +2,7 @@
 -- says, and those of closed ticks stand in front. True of a fresh group, and kept by every accepted call. Assumes nothing.
 use mathlib.Core.Path.{_≡_, refl, sym, ap, _∙_, subst}
 use mathlib.Core.Bool.{Bool, true, false, cond, not, true≢false}
-use mathlib.Core.List.{List, [], _∷_, _++_}
+use mathlib.Core.List.{List, [], _∷_}
 use mathlib.Core.Logic.{⊎-elim}
 use Prim.Native.Nat.{ℕ, zero, suc, _+_, _-_, _≤_, _<_}
 use native.Mathlib.Nat.{eq-or-lt-of-le, eq-zero-or-pos}
@@ -10,38 +10,34 @@ use native.Mathlib.Omega.{arith}
 use lib.Dec.{eqb, leb}
 use lib.ListN.{length, getD, take, drop, take-append-drop, length-take}
 use lib.Seq.{getD-take, take-length}
-use borrow.Author.Tests.{eqb-true, eqb-false, eq-eqb, ne-eqb, leb-true, le-leb, lt-leb}
+use borrow.Author.Tests.{eqb-false, eq-eqb, ne-eqb, leb-true, le-leb, lt-leb}
 use Rattle.base.proofs.Truth.{either}
-use Rattle.rules.specs.Kinds.{LR, quiet}
 use Rattle.rules.specs.Ranges.{ticks}
-use Rattle.event.specs.Word.{wordOf, tickOf, kindOf, numberOf}
-use Rattle.event.proofs.Word.{tick-word, kind-word, number-word}
+use Rattle.event.specs.Word.{tickOf, kindOf, numberOf}
 use Rattle.strip.specs.declared.Side.{Side}
-use Rattle.strip.specs.declared.Side.the-variants.{Model, Sheet}
 use Rattle.strip.specs.Good.{range}
 use Rattle.group.specs.Accepted.{Accepted}
-use Rattle.group.specs.Carrier.{ofModel, carriers, entering}
+use Rattle.group.specs.Carrier.{ofModel, entering}
 use Rattle.group.specs.Close.{closedGroup}
 use Rattle.group.specs.Fits.{Fits}
 use Rattle.group.specs.Fresh.{freshAnswer}
 use Rattle.group.specs.Marks.{modelMarked, sheetMarked, modelIn, sheetIn}
 use Rattle.group.specs.Request.{markedGroup}
 use Rattle.group.specs.declared.Group.{Group}
-use Rattle.group.proofs.Carrier.{sheet-number}
 use Rattle.group.proofs.Fits.{freshAnswer-fits, marked-fits, closed-fits}
 use Rattle.history.specs.Strips.{keep}
 use Rattle.history.specs.WellFormed.{sideOf}
 use Rattle.history.proofs.Keep.{keep-append, keep-all, kept}
 use Rattle.history.proofs.Carried.{small}
-use Rattle.history.proofs.Sides.{ofSide, by-kind, carriers-range, markedOn, inOn, Marks, known-side, marked-known}
+use Rattle.history.proofs.Sides.{ofSide, by-kind, carriers-range, Marks, known-side, marked-known}
 use Rattle.book.specs.Records.{carrierOf, lastOf, standsIn, breaks, WellFormed}
 use Rattle.book.specs.Replay.{counted}
 use Rattle.book.proofs.Carriers.{codeOf, own-code, Known, start-known, close-known, mark-known}
 use Rattle.book.proofs.Pass.{Inside, good}
 use Rattle.book.proofs.Part.{climb}
 use Rattle.book.proofs.Promise.{formed-rises}
-use Rattle.kept.specs.Inserted.{placeOf, inserted}
-use Rattle.kept.proofs.Among.{place, place-inside, place-behind, place-from, take-inserted, length-inserted}
+use Rattle.kept.specs.Inserted.{inserted}
+use Rattle.kept.proofs.Among.{place, place-behind, place-from, take-inserted}
 use Rattle.saved.specs.Saved.{upTo}
 use Rattle.saved.proofs.Lasts.{last-all}
 use Rattle.saved.proofs.Formed.{formed-later, formed-inserted}

@@ -1,28 +1,26 @@
 -- What the keeper saves. Each statement stands under its sentence. Assumes nothing.
-use mathlib.Core.Path.{_≡_, refl, sym, ap, _∙_}
-use mathlib.Core.Bool.{true, false, _||_, or-true}
+use mathlib.Core.Path.{_≡_, sym, ap, _∙_}
+use mathlib.Core.Bool.{true, false}
 use mathlib.Core.List.{List, [], _∷_, _++_}
 use mathlib.Core.Logic.{⊎-elim}
 use Prim.Native.Nat.{ℕ, _+_, _≤_, _<_}
 use native.Mathlib.Omega.{arith}
-use lib.Dec.{eqb, leb, ltb}
+use lib.Dec.{leb, ltb}
 use lib.ListN.{length, getD, take, length-take}
 use lib.Seq.{take-all, getD-take}
-use borrow.Author.Tests.{leb-true, leb-false, lt-ltb, ltb-true, ltb-false}
+use borrow.Author.Tests.{leb-true, leb-false, lt-ltb}
 use Rattle.base.proofs.Truth.{either}
 use Rattle.rules.specs.Ranges.{ticks, events, groups}
 use Rattle.rules.specs.Refusals.{badHeader}
 use Rattle.event.specs.Word.{tickOf}
-use Rattle.group.specs.Close.{closeAnswer}
 use Rattle.group.specs.Fresh.{freshGroup, freshAnswer}
-use Rattle.group.specs.declared.Group.{Group}
 use Rattle.group.proofs.Close.{close-cases, closed-number}
 use Rattle.group.proofs.Request.{request-keeps}
 use Rattle.history.specs.Run.{Call, request, close, Reached, step, run, fresh, reached}
 use Rattle.history.proofs.Agreed.{reached-agrees}
 use Rattle.history.proofs.Keep.{kept}
 use Rattle.history.proofs.Runs.{reached-append}
-use Rattle.book.specs.Book.{lengthOf, beyond, Holds}
+use Rattle.book.specs.Book.{lengthOf}
 use Rattle.book.specs.Calls.{bookCalls}
 use Rattle.book.specs.Read.{ticksIn, numberIn, recordsIn, bookRead}
 use Rattle.book.specs.Records.{WellFormed}
@@ -33,7 +31,7 @@ use Rattle.kept.specs.Kept.{room}
 use Rattle.saved.specs.Keeping.{Keeping, keepRun, freshKeeping, bookKeeping}
 use Rattle.saved.specs.Saved.{savedOf, upTo, bookReached, closedOnes, Saves}
 use Rattle.saved.proofs.Formed.{formed-front}
-use Rattle.saved.proofs.Order.{inOrder, passing-ordered, each-ordered}
+use Rattle.saved.proofs.Order.{passing-ordered, each-ordered}
 use Rattle.saved.proofs.Steps.{Tied, ordered, run-tied, fresh-tied}
 use Rattle.saved.proofs.Loaded.{book-reached, book-tied}
 

@@ -1,31 +1,28 @@
 -- Each call on the group, with the keeping that follows it: the keeper stays tied to what the calls reach. Assumes nothing.
-use mathlib.Core.Path.{_≡_, refl, sym, ap, _∙_, subst}
+use mathlib.Core.Path.{_≡_, refl, ap}
 use mathlib.Core.Bool.{true, false}
 use mathlib.Core.List.{List, [], _∷_, _++_}
 use mathlib.Core.Logic.{⊎-elim}
-use Prim.Native.Nat.{ℕ, _%_, _+_, _≤_, _<_}
+use Prim.Native.Nat.{ℕ, _%_, _+_, _<_}
 use native.Mathlib.Omega.{arith}
 use lib.Dec.{eqb, leb}
 use lib.ListN.{length}
-use borrow.Author.Tests.{eqb-true, eqb-false, leb-true, leb-false, le-leb, lt-leb}
+use borrow.Author.Tests.{eqb-true, leb-false, lt-leb}
 use Rattle.base.proofs.Truth.{either}
-use Rattle.rules.specs.Ranges.{ticks, groups}
-use Rattle.rules.specs.Refusals.{noTickLeft}
-use Rattle.event.specs.Word.{wordOf, tickOf, kindOf, numberOf}
+use Rattle.rules.specs.Ranges.{ticks}
+use Rattle.event.specs.Word.{wordOf, kindOf, numberOf}
 use Rattle.event.proofs.Word.{tick-word, kind-word, number-word}
 use Rattle.group.specs.Accepted.{Accepted}
-use Rattle.group.specs.Close.{closedGroup, closeAnswer}
-use Rattle.group.specs.Fresh.{freshGroup, freshAnswer}
+use Rattle.group.specs.Close.{closeAnswer}
 use Rattle.group.specs.Request.{requestRefusal, markedGroup, requestAnswer}
 use Rattle.group.specs.declared.Group.{Group}
 use Rattle.group.proofs.Accepted.{accepted}
 use Rattle.group.proofs.Carrier.{sheet-number}
-use Rattle.group.proofs.Close.{close-accepted, closed-closed}
-use Rattle.group.proofs.Request.{request-code, request-refused, request-accepted}
-use Rattle.history.specs.Run.{Call, request, close, Reached, step, run, fresh, reached}
+use Rattle.group.proofs.Close.{closed-closed}
+use Rattle.history.specs.Run.{Call, request, close, Reached, step, run, fresh}
 use Rattle.history.specs.Strips.{keep}
-use Rattle.kept.specs.Inserted.{inserted, insertedList, insertedCount}
-use Rattle.kept.specs.Kept.{openWord, startedWith}
+use Rattle.kept.specs.Inserted.{insertedList, insertedCount}
+use Rattle.kept.specs.Kept.{openWord}
 use Rattle.kept.specs.declared.Kept.{Kept}
 use Rattle.saved.specs.Keeping.{Keeping, keepStep, keepRun, freshKeeping}
 use Rattle.saved.proofs.Order.{inOrder, order-more}
