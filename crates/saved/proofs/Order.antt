@@ -12,7 +12,7 @@ use Rattle.event.specs.Word.{tickOf}
 use Rattle.history.specs.Strips.{keep}
 use Rattle.history.proofs.Keep.{keep-append}
 use Rattle.kept.specs.Inserted.{inserted}
-use Rattle.kept.proofs.Among.{place}
+use Rattle.kept.proofs.Among.{place, length-inserted}
 use Rattle.saved.specs.Saved.{upTo, howOften}
 
 -- the words, and then the events one after the other, each in its place
@@ -24,6 +24,14 @@ pub order-more : (ws es : List ℕ) (e : ℕ) → inOrder ws (es ++ (e ∷ [])) 
 unfolding inOrder
 order-more ws [] e = refl
 order-more ws (x ∷ es) e = order-more (inserted ws x) es e
+
+length-order : (ws es : List ℕ) → length (inOrder ws es) ≡ length ws + length es
+unfolding inOrder
+length-order ws [] = omega arith
+length-order ws (e ∷ es) = length-order (inserted ws e) es ∙ omega (arith, length-inserted ws e)
+
+pub length-ordered : (es : List ℕ) → length (inOrder [] es) ≡ length es
+length-ordered es = length-order [] es ∙ omega arith
 
 module _ (p : ℕ → Bool) where
   -- how many words pass

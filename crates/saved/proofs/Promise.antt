@@ -5,7 +5,7 @@ use mathlib.Core.List.{List, [], _∷_, _++_}
 use mathlib.Core.Logic.{⊎-elim}
 use Prim.Native.Nat.{ℕ, _+_, _≤_, _<_}
 use native.Mathlib.Omega.{arith}
-use lib.Dec.{leb, ltb}
+use lib.Dec.{eqb, leb, ltb}
 use lib.ListN.{length, getD, take, length-take}
 use lib.Seq.{take-all, getD-take}
 use borrow.Author.Tests.{leb-true, leb-false, lt-ltb}
@@ -29,9 +29,9 @@ use Rattle.book.proofs.Accepted.{good-write}
 use Rattle.book.proofs.Promise.{ReadBack, formed-rises, write-then-read}
 use Rattle.kept.specs.Kept.{room}
 use Rattle.saved.specs.Keeping.{Keeping, keepRun, freshKeeping, bookKeeping}
-use Rattle.saved.specs.Saved.{savedOf, upTo, bookReached, closedOnes, Saves}
+use Rattle.saved.specs.Saved.{keptOf, savedOf, upTo, bookReached, closedOnes, Saves}
 use Rattle.saved.proofs.Formed.{formed-front}
-use Rattle.saved.proofs.Order.{passing-ordered, each-ordered}
+use Rattle.saved.proofs.Order.{length-ordered, passing-ordered, each-ordered}
 use Rattle.saved.proofs.Steps.{Tied, ordered, run-tied, fresh-tied}
 use Rattle.saved.proofs.Loaded.{book-reached, book-tied}
 
@@ -87,6 +87,11 @@ module _ (number : ℕ) (calls : List Call) (k : Keeping) (N : ℕ) (enough : ro
       ∙ kept (λ w. leb (tickOf w) T) (ordered r) i h))
       (t .book .formed))
 
+  kept-are : length (r .events) ≤ room → keptOf k ≡ ordered r
+  kept-are h =
+      let l : length (ordered r) ≤ N = omega (arith, length-ordered (r .events)) in
+      ap (λ (n : ℕ). take n (k .list)) (t .follows .all .held l) ∙ t .follows .all .words l
+
   saved-are : length these ≤ N → savedOf k ≡ these
   saved-are h = ap (λ (n : ℕ). take n (k .list)) (t .follows .closed .held h) ∙ t .follows .closed .words h
 
@@ -105,6 +110,7 @@ module _ (number : ℕ) (calls : List Call) (k : Keeping) (N : ℕ) (enough : ro
       let m = as-many in
       record {
         group = t .group;
+        all = λ h. rw (kept-are h) (record { rises = formed-rises (T + 1) (ordered r) (t .book .formed); each = λ w. passing-ordered (λ v. eqb v w) (r .events) });
         these = λ h. rw (saved-are (omega arith)) (record { rises = formed-rises T these these-formed; each = each-ordered T (r .events) });
         holds = λ h. rw (saved-are (omega arith)) (record {
           time = reached-agrees number calls .limit;
@@ -113,6 +119,7 @@ module _ (number : ℕ) (calls : List Call) (k : Keeping) (N : ℕ) (enough : ro
           formed = these-formed;
         });
         too-many = λ h space. many-refused T (r .group .number) (savedOf k) space (saved-long (omega arith));
+        long = omega (arith, t .follows .long);
       }
 
 -- ---- 1. From a fresh group.

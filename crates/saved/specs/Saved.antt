@@ -4,7 +4,7 @@ use mathlib.Core.Bool.{true}
 use mathlib.Core.List.{List}
 use Prim.Native.Nat.{ℕ, _≤_, _<_}
 use lib.Dec.{eqb, leb}
-use lib.ListN.{length}
+use lib.ListN.{length, take}
 use Rattle.rules.specs.Ranges.{events}
 use Rattle.rules.specs.Refusals.{badHeader}
 use Rattle.event.specs.Word.{tickOf}
@@ -14,10 +14,14 @@ use Rattle.book.specs.Book.{Holds}
 use Rattle.book.specs.Read.{recordsIn, bookRead}
 use Rattle.book.specs.Tick.{rising}
 use Rattle.book.specs.Write.{bookWritten}
-use Rattle.kept.specs.Kept.{closedEvents}
+use Rattle.kept.specs.Kept.{room, closedEvents}
 use Rattle.saved.specs.Keeping.{Keeping}
 
--- the words that a save hands to the writer
+-- the words that are kept, of the open tick too
+abbrev pub keptOf : Keeping → List ℕ
+keptOf k = take (k .kept .count) (k .list)
+
+-- the words that a save hands to the writer: the first of them
 abbrev pub savedOf : Keeping → List ℕ
 savedOf k = closedEvents (k .list) (k .kept)
 
@@ -42,10 +46,13 @@ bookReached b list = record { group = bookRead b (length list) .group; events = 
 abbrev pub closedOnes : Reached → List ℕ
 closedOnes r = upTo (r .group .closed) (r .events)
 
--- what the keeper holds beside what its calls reach: the same group; and of the accepted events of closed ticks, where a book can hold as many, it hands
--- exactly these to the writer, in book order, and they are well-formed; where there are more, the writer refuses what it hands over by 22
+-- what the keeper holds beside what its calls reach: the same group; the accepted events in book order, where its list has room for them; and of
+-- those of closed ticks, where a book can hold as many, it hands exactly these to the writer, in book order, and they are well-formed; where there are
+-- more, the writer refuses what it is handed by 22. The list stays long enough for the next start.
 pub record Saves (r : Reached) (k : Keeping) : Type 0 where
   pub group : k .group ≡ r .group
+  pub all : length (r .events) ≤ room → InBookOrder (r .events) (keptOf k)
   pub these : length (closedOnes r) ≤ events → InBookOrder (closedOnes r) (savedOf k)
   pub holds : length (closedOnes r) ≤ events → Holds (r .group .closed) (r .group .number) (savedOf k)
-  pub too-many : events < length (closedOnes r) → (room : ℕ) → bookWritten (r .group .closed) (r .group .number) (savedOf k) room .code ≡ badHeader
+  pub too-many : events < length (closedOnes r) → (space : ℕ) → bookWritten (r .group .closed) (r .group .number) (savedOf k) space .code ≡ badHeader
+  pub long : room ≤ length (k .list)
