@@ -4,7 +4,7 @@ use mathlib.Core.Path.{_≡_, sym, _∙_}
 use mathlib.Core.List.{List}
 use mathlib.Core.Bool.{Bool, cond}
 use Prim.Native.Nat.{ℕ, _≤_}
-use lib.ListN.{length}
+use lib.ListN.{length, replicate}
 use denote.Ref.{RefT}
 use Rattle.base.specs.HowMany.{howMany}
 use Rattle.base.specs.Part.{wordAt}
@@ -46,6 +46,9 @@ use Rattle.judge.specs.declared.check.Checked.{Checked}
 use Rattle.judge.specs.declared.scan.Head.{Head}
 use Rattle.judge.specs.declared.scan.Seen.{Seen}
 use Rattle.judge.specs.declared.scan.Standing.{Standing}
+use Rattle.kept.specs.Inserted.{insertedCount, insertedList}
+use Rattle.kept.specs.Kept.{room, openWord, recordsOf, startedWith, requestedKept, requestedList, closedKept, closedEvents}
+use Rattle.kept.specs.declared.Kept.{Kept}
 use Rattle.pass.specs.Pass.{begun}
 use Rattle.pass.specs.declared.Pass.{Pass}
 use Rattle.span.specs.Answer.{spansAnswer, listAfter}
@@ -163,6 +166,25 @@ pub record PromisesDetermine : Type 0 where
   pub holds : (x : Standing) → Once Bool (λ r. r ≡ holding x)
   -- judge::scan::told
   pub told : (x : Standing) → Once Verdict (λ r. r ≡ toldBy x)
+  -- the accepted events as the keeper keeps them: a list for them, an event's word, how many records a book has, a start, and after each call
+  -- kept::space
+  pub space : Once (List ℕ) (λ r. r ≡ replicate room 0)
+  -- kept::word
+  pub open-word : (closed kind number : ℕ) → Once ℕ (λ r. r ≡ openWord closed kind number)
+  -- kept::records
+  pub records : (n : ℕ) → Once ℕ (λ r. r ≡ recordsOf n)
+  -- kept::started
+  pub started : (n : ℕ) → Once Kept (λ r. r ≡ startedWith n)
+  -- kept::insert
+  pub insert : (events : List ℕ) (n w : ℕ) → Once (ℕ × List ℕ) (λ r. (r .0 ≡ insertedCount (length events) n) × (r .1 ≡ insertedList events n w))
+  -- kept::after_request
+  pub after-request : (events : List ℕ) (kept : Kept) (code w : ℕ)
+      → Once (Kept × List ℕ) (λ r. (r .0 ≡ requestedKept (length events) kept code) × (r .1 ≡ requestedList events kept code w))
+  -- kept::after_close
+  pub after-close : (kept : Kept) (code : ℕ) → Once Kept (λ r. r ≡ closedKept kept code)
+  -- kept::of_closed
+  pub of-closed : (events : RefT (List ℕ)) (kept : Kept)
+      → Once (List ℕ × (ℕ × ℕ)) (λ r. (r .0 ≡ closedEvents (events .now) kept) × (r .1 ≡ wordAt events 0))
   -- the numbers of a verdict
   -- formula::number
   pub number : (v : Verdict) → Once ℕ (λ r. r ≡ verdictNumber v)
@@ -236,6 +258,14 @@ promises-determine = record {
   scan-step = λ seen t model sheet. one (stepOf seen t model sheet);
   holds = λ x. one (holding x);
   told = λ x. one (toldBy x);
+  space = one (replicate room 0);
+  open-word = λ closed kind number. one (openWord closed kind number);
+  records = λ n. one (recordsOf n);
+  started = λ n. one (startedWith n);
+  insert = λ events n w. two (insertedCount (length events) n) (insertedList events n w);
+  after-request = λ events kept code w. two (requestedKept (length events) kept code) (requestedList events kept code w);
+  after-close = λ kept code. one (closedKept kept code);
+  of-closed = λ events kept. two (closedEvents (events .now) kept) (wordAt events 0);
   number = λ v. one (verdictNumber v);
   value = λ v. one (verdictValue v);
   text = λ out at bytes. two (addedEnd out at bytes) (added out at bytes);

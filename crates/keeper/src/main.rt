@@ -5,7 +5,6 @@ ghost use lib.ListN.{length};
 mod answer;
 mod ask;
 mod command;
-mod events;
 mod file;
 mod input;
 mod keep;
@@ -93,8 +92,9 @@ fn requested(
 ) -> Console {
     let mut c = c;
     let mut counts = c.counts;
-    let event = events::word(closed, asked.a, asked.b);
-    counts.kept = events::kept(events, counts.kept, code, event);
+    let kept = counts.kept;
+    let event = kept::word(closed, asked.a, asked.b);
+    counts.kept = kept::after_request(events, kept, code, event);
     c.counts = counts;
     c.at = answer::request(out, c.at, code);
     c
@@ -226,7 +226,7 @@ fn converse(
 
 fn keep_group(out: &mut [u8]) {
     let mut buffer = [0u8; 65536];
-    let mut events = [0u32; events::KEPT];
+    let mut events = kept::space();
     let mut sheets = store_space();
     let mut bytes = delivery_space();
     let start = Done {

@@ -1,0 +1,2 @@
+pub mod Keeping
+pub mod Saved
