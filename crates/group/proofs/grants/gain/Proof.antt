@@ -60,7 +60,7 @@ loop2-holds c =
     let l = c .before .before .before in
     let a = l .before .args in
     let none : l .loop .k * 64 ≡ l .loop .k * 64 + 0 = omega arith in (
-      rw (c .next-bit .ensures) (next-le (c .before .changed .result) 0),
+      rw (c .next-bit .ensures) (next-le _ _),
       λ d h. h ∙ ap (front (gainedWords d (a .t2) (a .t3) (a .t4) (a .members) (a .lj)) d) none
           ∙ unchanged-between d (a .t2) (a .t3) (a .t4) (a .members) (a .lj) (l .loop .k) 0 (c .next-bit .result) (omega arith) (omega arith)
           (c .next-bit .ensures ∙ ap (λ (x : ℕ). nextBit x 0) (c .before .changed .ensures)),
