@@ -2,8 +2,8 @@
 use mathlib.Core.Path.{ap₂, _∙_}
 use Prim.Native.Nat.{ℕ, _+_, _*_}
 use borrow.Author.Needs.{needs}
-use Rattle.ferrulebee.proofs.pack.Statement.{statement}
-use Rattle.ferrulebee.proofs.pack.Tie as tie
+use Rattle.loader.proofs.pack.Statement.{statement}
+use Rattle.loader.proofs.pack.Tie as tie
 
 number-requires : tie.Need-number-requires
 number-requires c κs = search needs

@@ -1,8 +1,8 @@
 -- The tests are the definition's.
 use mathlib.Core.Path.{refl}
 use borrow.Author.Needs.{needs}
-use Rattle.ferrulebee.proofs.whole.Statement.{statement}
-use Rattle.ferrulebee.proofs.whole.Tie as tie
+use Rattle.loader.proofs.whole.Statement.{statement}
+use Rattle.loader.proofs.whole.Tie as tie
 
 mul-result : tie.Need-mul-result
 mul-result c = search needs

@@ -9,11 +9,11 @@ use Rattle.base.proofs.Rules.{answers}
 use Rattle.base.proofs.Truth.{both}
 use Rattle.rules.specs.Ranges.{events}
 use Rattle.wire.specs.Words.{wordsIn}
-use Rattle.ferrulebee.specs.Judge.{wholeStrip, judgedFrom}
+use Rattle.loader.specs.Judge.{wholeStrip, judgedFrom}
 use Rattle.judge.specs.Judge.{judgedBy}
 use borrow.Author.Needs.{needs}
-use Rattle.ferrulebee.proofs.judged.Statement.{statement}
-use Rattle.ferrulebee.proofs.judged.Tie as tie
+use Rattle.loader.proofs.judged.Statement.{statement}
+use Rattle.loader.proofs.judged.Tie as tie
 
 short : (n : ℕ) → wholeStrip n ≡ true → n / 4 ≤ events
 short n e = let h = leb-true n (4 * events) (both (eqb (n % 4) 0) _ e .1) in omega arith

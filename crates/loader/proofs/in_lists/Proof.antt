@@ -5,8 +5,8 @@ use Prim.Native.Nat.{ℕ, _-_}
 use Rattle.wire.proofs.Words.{lent}
 use Rattle.judge.specs.Judge.{judgedBy}
 use borrow.Author.Needs.{needs}
-use Rattle.ferrulebee.proofs.in_lists.Statement.{statement}
-use Rattle.ferrulebee.proofs.in_lists.Tie as tie
+use Rattle.loader.proofs.in_lists.Statement.{statement}
+use Rattle.loader.proofs.in_lists.Tie as tie
 
 decode-requires : tie.Need-decode-requires
 decode-requires c κs = search needs
