@@ -1,4 +1,4 @@
--- `group::grants::gain` meets its contract: word by word of the sheets, from one that changes to the next, those before have their new words and those between keep theirs.
+-- `grants::gain` meets its contract: word by word of the sheets, from one that changes to the next, those before have their new words and those between keep theirs.
 use mathlib.Core.Path.{_≡_, refl, sym, _∙_, ap}
 use mathlib.Core.List.{List}
 use Prim.Native.Nat.{ℕ, _+_, _-_, _*_, _≤_}
@@ -9,11 +9,11 @@ use Rattle.bits.specs.Bit.{width, nextBit}
 use Rattle.bits.specs.Set.{has}
 use Rattle.bits.proofs.Next.{next-le, next-from}
 use Rattle.bits.proofs.Set.{bit-has}
-use Rattle.group.specs.Gain.{gainedWord, gainedWords}
-use Rattle.group.proofs.Apart.{unchanged-between}
+use Rattle.grants.specs.Gain.{gainedWord, gainedWords}
+use Rattle.grants.proofs.Apart.{unchanged-between}
 use borrow.Author.Needs.{needs}
-use Rattle.group.proofs.grants.gain.Statement.{statement}
-use Rattle.group.proofs.grants.gain.Tie as tie
+use Rattle.grants.proofs.gain.Statement.{statement}
+use Rattle.grants.proofs.gain.Tie as tie
 
 abbrev Inv-loop2 : tie.InvT-loop2
 Inv-loop2 words₀ members lj sr adds liberal k removed added inside change place₀ words place = (place ≤ width)

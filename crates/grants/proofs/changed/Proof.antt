@@ -1,9 +1,9 @@
--- `group::grants::changed` meets its contract.
+-- `grants::changed` meets its contract.
 use mathlib.Core.Path.{ap}
 use lib.Bits.{bitOr}
 use borrow.Author.Needs.{needs}
-use Rattle.group.proofs.grants.changed.Statement.{statement}
-use Rattle.group.proofs.grants.changed.Tie as tie
+use Rattle.grants.proofs.changed.Statement.{statement}
+use Rattle.grants.proofs.changed.Tie as tie
 
 choose-requires : tie.Need-choose-requires
 choose-requires c κs = search needs

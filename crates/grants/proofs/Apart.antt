@@ -20,9 +20,8 @@ use Rattle.bits.specs.Bit.{width, bit, nextBit}
 use Rattle.bits.specs.Set.{has}
 use Rattle.bits.proofs.Bit.{bit-or}
 use Rattle.bits.proofs.Next.{next-le, next-from, next-unset}
-use Rattle.group.specs.Close.{closedWord, closedWords}
-use Rattle.group.specs.Fits.{Sized}
-use Rattle.group.specs.Gain.{lostWords, gainedWord, changedSheets, gainedWords}
+use Rattle.grants.specs.Words.{Sized, closedWord, closedWords}
+use Rattle.grants.specs.Gain.{lostWords, gainedWord, changedSheets, gainedWords}
 
 pub closed-apart : (words sr adds liberal : List ℕ) (members sl lj : ℕ)
     → gainedWords (lostWords words sl) sr adds liberal members lj ≡ closedWords words sr adds liberal members sl lj

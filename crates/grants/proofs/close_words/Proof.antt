@@ -1,13 +1,13 @@
--- `group::grants::close_words` meets its contract: what an SL takes, then the rest of the tick.
+-- `grants::close_words` meets its contract: what an SL takes, then the rest of the tick.
 use mathlib.Core.Path.{ap, _∙_}
 use mathlib.Core.List.{List}
 use Prim.Native.Nat.{ℕ}
 use lib.ListN.{length}
-use Rattle.group.specs.Gain.{gainedWords}
-use Rattle.group.proofs.Apart.{closed-apart, length-lost}
+use Rattle.grants.specs.Gain.{gainedWords}
+use Rattle.grants.proofs.Apart.{closed-apart, length-lost}
 use borrow.Author.Needs.{needs}
-use Rattle.group.proofs.grants.close_words.Statement.{statement}
-use Rattle.group.proofs.grants.close_words.Tie as tie
+use Rattle.grants.proofs.close_words.Statement.{statement}
+use Rattle.grants.proofs.close_words.Tie as tie
 
 lose-requires : tie.Need-lose-requires
 lose-requires c κs = search needs

@@ -1,4 +1,4 @@
--- `group::grants::lose` meets its contract: a pass over the sheets, the first s of which have their new words.
+-- `grants::lose` meets its contract: a pass over the sheets, the first s of which have their new words.
 use mathlib.Core.Path.{_≡_, refl, sym}
 use Prim.Native.Nat.{_-_, _^_, _≤_}
 use native.Mathlib.Omega.{arith}
@@ -6,11 +6,11 @@ use lib.Bits.{bitAnd}
 use Rattle.base.proofs.Front.{front, front-none, turn, last}
 use Rattle.rules.specs.Ranges.{sheets}
 use Rattle.bits.specs.Bit.{width}
-use Rattle.group.specs.Gain.{lostWords}
-use Rattle.group.proofs.Apart.{lost-none}
+use Rattle.grants.specs.Gain.{lostWords}
+use Rattle.grants.proofs.Apart.{lost-none}
 use borrow.Author.Needs.{needs}
-use Rattle.group.proofs.grants.lose.Statement.{statement}
-use Rattle.group.proofs.grants.lose.Tie as tie
+use Rattle.grants.proofs.lose.Statement.{statement}
+use Rattle.grants.proofs.lose.Tie as tie
 
 abbrev Inv-loop : tie.InvT-loop
 Inv-loop words₀ sl s₀ words s = (s ≤ sheets) × (words ≡ front (lostWords words₀ sl) words₀ s)

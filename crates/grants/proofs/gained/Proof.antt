@@ -1,8 +1,8 @@
--- `group::grants::gained` meets its contract.
-use Rattle.group.specs.Gain.{gainedWord}
+-- `grants::gained` meets its contract.
+use Rattle.grants.specs.Gain.{gainedWord}
 use borrow.Author.Needs.{needs}
-use Rattle.group.proofs.grants.gained.Statement.{statement}
-use Rattle.group.proofs.grants.gained.Tie as tie
+use Rattle.grants.proofs.gained.Statement.{statement}
+use Rattle.grants.proofs.gained.Tie as tie
 
 choose-requires : tie.Need-choose-requires
 choose-requires c κs = search needs

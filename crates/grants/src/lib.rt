@@ -2,9 +2,8 @@
 ghost use mathlib.Core.Path.{_≡_};
 ghost use lib.ListN.{length};
 ghost use Rattle.rules.specs.Ranges.{sheets};
-ghost use Rattle.group.specs.Close.{closedWords};
-ghost use Rattle.group.specs.Fits.{Sized};
-ghost use Rattle.group.specs.Gain.{lostWords, gainedWord, changedSheets, gainedWords};
+ghost use Rattle.grants.specs.Words.{Sized, closedWords};
+ghost use Rattle.grants.specs.Gain.{lostWords, gainedWord, changedSheets, gainedWords};
 use rules::SHEETS;
 
 // Every sheet's word without the models that have an SL.
