@@ -5,11 +5,8 @@ pub mod Carriers
 pub mod Format
 pub mod Jump
 pub mod Led
-pub mod Part
 pub mod Pass
 pub mod Promise
-pub mod Range
 pub mod Reading
 pub mod Replaying
 pub mod Writing
-pub mod Written

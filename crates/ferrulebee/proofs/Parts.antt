@@ -15,7 +15,7 @@ use Rattle.formula.specs.declared.Verdict.the-variants.{Granted, Denied, Refuse
 use Rattle.formula.specs.declared.Moment.the-variants.{Add, Join}
 use Rattle.judge.specs.Evidence.{placeOf, evidenceOf, startOf}
 use Rattle.book.specs.Tick.{rising, placeFrom, tickPart, tickStart}
-use Rattle.book.proofs.Part.{no-part, part-here}
+use Rattle.tick.proofs.Part.{no-part, part-here}
 use Rattle.ferrulebee.specs.declared.part.Part.{Part}
 use Rattle.ferrulebee.specs.Part.{sheetStrip, evidencePart, recordsPart}
 

@@ -2,4 +2,3 @@ pub mod Delivered
 pub mod Judge
 pub mod Part
 pub mod Read
-pub mod Short

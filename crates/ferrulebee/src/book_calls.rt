@@ -32,10 +32,10 @@ pub extern "C" fn ferrulebee_book_write(
 fn start(words: &[u32], tick: u32) -> usize
     ensures { λ r. ⌜ r ≡ tickStart (words .entry .now) tick ⌝ }
 {
-    if !book::tick::is_rising(words) {
+    if !tick::is_rising(words) {
         return 0;
     }
-    book::tick::place_from(words, tick as u64)
+    tick::place_from(words, tick as u64)
 }
 
 #[no_mangle]

@@ -1,18 +1,17 @@
 -- What closing the open tick does.
-use mathlib.Core.Bool.{Bool, cond}
+use mathlib.Core.Bool.{cond}
 use mathlib.Core.List.{List}
-use Prim.Native.Nat.{ℕ, _+_, _-_, _^_}
+use Prim.Native.Nat.{ℕ, _+_}
 use lib.Dec.{leb}
-use lib.Bits.{bitAnd, bitOr}
-use lib.ListN.{getD}
-use Rattle.base.specs.Table.{table}
-use Rattle.rules.specs.Ranges.{sheets, ticks}
+use lib.Bits.{bitOr}
+use Rattle.rules.specs.Ranges.{ticks}
 use Rattle.rules.specs.Refusals.{noTickLeft}
-use Rattle.bits.specs.Bit.{width, afterWord}
-use Rattle.bits.specs.Set.{none, has, either, after}
+use Rattle.bits.specs.Bit.{afterWord}
+use Rattle.bits.specs.Set.{none, either, after}
 use Rattle.group.specs.Carrier.{sheetWords}
 use Rattle.group.specs.declared.Group.{Group}
 use Rattle.group.specs.declared.Answer.{Answer}
+unfoldable pub use Rattle.grants.specs.Words.{closedWord, closedWords}
 
 -- a model is in: "(no SL and no LL) since a join of either kind"
 unfoldable pub closedMembers : Group → ℕ
@@ -32,20 +31,6 @@ closedAdded g = after sheetWords (g .added) (removes g) (adds g)
 -- a sheet is in by LA: "(no SR and no LR) since an LA"
 unfoldable pub closedLiberal : Group → List ℕ
 closedLiberal g = after sheetWords (g .liberal) (removes g) (g .la)
-
--- a sheet's word: kept where neither SR nor SL ends it; with an add, the models that are in now; while in by LA, the models with an LJ
-unfoldable pub closedWord : ℕ → Bool → Bool → Bool → ℕ → ℕ → ℕ → ℕ
-closedWord word sr add liberal members sl lj =
-    bitOr
-    (bitOr
-    (cond sr 0 (bitAnd word ((2 ^ width - 1) - sl)))
-    (cond add members 0))
-    (cond liberal lj 0)
-
--- every sheet's word after a tick, from the words before and the tick's sets
-unfoldable pub closedWords : List ℕ → List ℕ → List ℕ → List ℕ → ℕ → ℕ → ℕ → List ℕ
-closedWords words sr adds liberal members sl lj =
-    table sheets (λ s. closedWord (getD words s 0) (has sr s) (has adds s) (has liberal s) members sl lj)
 
 -- "Closing applies all its accepted requests together."
 unfoldable pub closedGroup : Group → Group

@@ -1,18 +1,10 @@
 -- What holds of the words of every group that a machine holds: each fits its place, and each list is as long as its array.
-use mathlib.Core.Path.{_≡_}
-use mathlib.Core.List.{List}
 use Prim.Native.Nat.{ℕ, _^_, _<_}
-use lib.ListN.{length}
 use Rattle.rules.specs.Ranges.{sheets}
 use Rattle.bits.specs.Bit.{width}
-use Rattle.bits.specs.Set.{Words}
 use Rattle.group.specs.Carrier.{sheetWords}
 use Rattle.group.specs.declared.Group.{Group}
-
--- n words
-pub record Sized (n : ℕ) (ws : List ℕ) : Type 0 where
-  pub long : length ws ≡ n
-  pub words : Words ws
+pub use Rattle.grants.specs.Words.{Sized}
 
 pub record Fits (g : Group) : Type 0 where
   pub number : g .number < 2 ^ 32

@@ -4,7 +4,6 @@ pub mod Close
 pub mod Count
 pub mod Fits
 pub mod Fresh
-pub mod Gain
 pub mod Marks
 pub mod Read
 pub mod Request

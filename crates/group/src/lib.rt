@@ -1,7 +1,5 @@
 // A group: its grants, its memberships and its open tick, in one record that goes by value through requests and closes.
 // Every promise names the one definition of specs/ that its answer equals.
-pub mod grants;
-
 ghost use mathlib.Core.Path.{_≡_};
 ghost use mathlib.Core.Bool.{true, cond};
 ghost use Prim.Native.Nat.{_<_};

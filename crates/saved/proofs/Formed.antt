@@ -15,7 +15,7 @@ use Rattle.base.proofs.Truth.{either}
 use Rattle.event.specs.Word.{tickOf}
 use Rattle.book.specs.Records.{outside, notGreater, carrierOf, lastOf, breaks, recordRefusal, WellFormedRecords}
 use Rattle.book.proofs.Pass.{Inside, Good, good}
-use Rattle.book.proofs.Part.{climb}
+use Rattle.tick.proofs.Part.{climb}
 use Rattle.book.proofs.Promise.{formed-rises}
 use Rattle.kept.specs.Inserted.{inserted}
 use Rattle.kept.proofs.Among.{place, place-inside, place-from, place-last, at-before, at-place, at-behind, length-inserted}

@@ -23,7 +23,7 @@ use Rattle.book.specs.Records.{WellFormedRecords}
 use Rattle.book.specs.Replay.{counted, closedUpTo, replayedGroup}
 use Rattle.book.specs.declared.BookRead.{BookRead}
 use Rattle.book.proofs.Accepted.{read-code, read-headed, read-formed, good-read, good-list}
-use Rattle.book.proofs.Part.{climb}
+use Rattle.tick.proofs.Part.{climb}
 use Rattle.book.proofs.Pass.{good}
 use Rattle.book.proofs.Promise.{formed-rises}
 use Rattle.book.proofs.Replaying.{replay-reached}

@@ -34,7 +34,7 @@ use Rattle.book.specs.Records.{carrierOf, lastOf, standsIn, breaks, WellFormedR
 use Rattle.book.specs.Replay.{counted}
 use Rattle.book.proofs.Carriers.{codeOf, own-code, Known, start-known, close-known, mark-known}
 use Rattle.book.proofs.Pass.{Inside, good}
-use Rattle.book.proofs.Part.{climb}
+use Rattle.tick.proofs.Part.{climb}
 use Rattle.book.proofs.Promise.{formed-rises}
 use Rattle.kept.specs.Inserted.{inserted}
 use Rattle.kept.proofs.Among.{place, place-behind, place-from, take-inserted}

@@ -1,5 +1,7 @@
 -- `group::Group::close` meets its contract.
+use native.Mathlib.Omega.{arith}
 use borrow.Author.Tests.{le-leb, lt-leb}
+use Rattle.rules.specs.Ranges.{ticks}
 use Rattle.group.specs.Close.{closeAnswer}
 use borrow.Author.Needs.{needs}
 use Rattle.group.proofs.Group.close.Statement.{statement}
@@ -10,7 +12,7 @@ after-close-requires c κs = search needs
 
 returns : tie.Need-returns
 unfolding closeAnswer
-returns c = simp (lt-leb _ _ (c .before .if1 .taken), c .after-close .ensures)
+returns c = simp (lt-leb ticks (c .before .before .before .args .self .closed) (omega (arith, c .before .if1 .taken)), c .after-close .ensures)
 
 returns-2 : tie.Need-returns-2
 unfolding closeAnswer

@@ -1,5 +1,7 @@
 -- `group::Group::fresh` meets its contract.
+use native.Mathlib.Omega.{arith}
 use borrow.Author.Tests.{le-leb, lt-leb}
+use Rattle.rules.specs.Ranges.{groups}
 use Rattle.group.specs.Fresh.{freshAnswer}
 use borrow.Author.Needs.{needs}
 use Rattle.group.proofs.Group.fresh.Statement.{statement}
@@ -10,7 +12,7 @@ fresh-group-requires c κs = search needs
 
 returns : tie.Need-returns
 unfolding freshAnswer
-returns c = simp (le-leb _ _ (c .before .if1 .taken), c .fresh-group .ensures)
+returns c = simp (le-leb groups (c .before .before .args .number) (omega (arith, c .before .if1 .taken)), c .fresh-group .ensures)
 
 fresh-group-requires-2 : tie.Need-fresh-group-requires-2
 fresh-group-requires-2 c κs = search needs

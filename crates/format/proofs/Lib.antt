@@ -1,0 +1,3 @@
+-- What the proofs of other crates cite.
+pub mod Range
+pub mod Written
