@@ -3,5 +3,4 @@ pub mod Calls
 pub mod Read
 pub mod Records
 pub mod Replay
-pub mod Tick
 pub mod Write

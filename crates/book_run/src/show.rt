@@ -66,7 +66,7 @@ pub fn part(words: &[u32], tick: u32) {
     text(b"tick");
     number(tick);
     text(b":");
-    let records = book::tick_part(words, tick);
+    let records = tick::tick_part(words, tick);
     let mut i: usize = 0;
     while i < records.len() {
         number(records[i]);

@@ -17,8 +17,9 @@ use Rattle.group.proofs.Request.{request-keeps}
 use Rattle.history.specs.Run.{close, Reached, step, run, fresh, reached}
 use Rattle.history.proofs.Runs.{run-append}
 use Rattle.book.specs.Calls.{requestOf, requestsOf, bookCalls, groupOf}
-use Rattle.book.specs.Read.{ticksIn, numberIn, recordsIn, bookRead}
-use Rattle.book.specs.Tick.{ofTick}
+use Rattle.book.specs.Read.{recordsIn, bookRead}
+use Rattle.format.specs.Header.{ticksIn, numberIn}
+use Rattle.tick.specs.Tick.{ofTick}
 use Rattle.book.specs.declared.BookRead.{BookRead}
 use Rattle.book.proofs.Accepted.{read-code, read-headed, read-formed, good-read}
 

@@ -26,7 +26,8 @@ use Rattle.history.proofs.Answers.{read-granted}
 use Rattle.history.proofs.Gate as gate
 use Rattle.history.proofs.Runs.{reached-append}
 use Rattle.book.specs.Calls.{bookCalls}
-use Rattle.book.specs.Read.{ticksIn, numberIn, recordsIn, bookRead}
+use Rattle.book.specs.Read.{recordsIn, bookRead}
+use Rattle.format.specs.Header.{ticksIn, numberIn}
 use Rattle.book.specs.Replay.{replayedGroup}
 use Rattle.book.specs.declared.BookRead.{BookRead}
 use Rattle.book.proofs.Accepted.{read-code, read-headed, read-formed, good-read}

@@ -11,15 +11,16 @@ use Rattle.base.specs.Part.{wordAt}
 use Rattle.bits.specs.Bit.{width, bit, nextBit, afterWord}
 use Rattle.bits.specs.Set.{either, after}
 use Rattle.book.specs.Read.{bookRead, listRead}
-use Rattle.book.specs.Tick.{tickPart, tickStart, rising, placeFrom}
+use Rattle.tick.specs.Tick.{tickPart, tickStart, rising, placeFrom}
 use Rattle.book.specs.Write.{bookWritten, bufferWritten}
 use Rattle.book.specs.declared.BookRead.{BookRead}
 use Rattle.book.specs.declared.BookWritten.{BookWritten}
 use Rattle.event.specs.Word.{tickOf, kindOf, numberOf}
+use Rattle.format.specs.Header.{headerRefusal, roomRefusal}
 use Rattle.formula.specs.Answer.{verdictNumber, verdictValue}
 use Rattle.formula.specs.declared.Verdict.{Verdict}
 use Rattle.ferrulebee.specs.Delivered.{deliveryNumbers}
-use Rattle.ferrulebee.specs.Judge.{packed, judgedFrom}
+use Rattle.loader.specs.Judge.{packed, judgedFrom}
 use Rattle.ferrulebee.specs.Part.{evidencePart, recordsPart}
 use Rattle.ferrulebee.specs.Read.{readNumbers}
 use Rattle.ferrulebee.specs.declared.deliver.Delivered.{Delivered}
@@ -91,6 +92,10 @@ pub record PromisesDetermine : Type 0 where
   pub judge : (m s : List ℕ) (now : ℕ) → Once Verdict (Judges m s now)
   -- judge
   pub judge-bytes : (m s : List ℕ) (now : ℕ) → Once ℕ (λ r. r ≡ packed (judgedFrom m s now))
+  -- loader::judged
+  pub judged : (m s : List ℕ) (now : ℕ) → Once Verdict (λ r. r ≡ judgedFrom m s now)
+  -- loader::pack
+  pub pack : (v : Verdict) → Once ℕ (λ r. r ≡ packed v)
   -- judge::evidence::evidence
   pub evidence : (m s : RefT (List ℕ)) (now : ℕ)
       → Once (List ℕ × (ℕ × ℕ)) (λ r. (r .0 ≡ evidenceOf (judgedBy (m .now) (s .now) now) (m .now) (s .now)) × (r .1 ≡ startOf (judgedBy (m .now) (s .now) now) m s))
@@ -113,7 +118,11 @@ pub record PromisesDetermine : Type 0 where
   -- book::write, ferrulebee_book_write
   pub writer : (T n : ℕ) (ws buffer : List ℕ)
       → Once (BookWritten × List ℕ) (λ r. (r .0 ≡ bookWritten T n ws (length buffer)) × (r .1 ≡ bufferWritten T n ws buffer))
-  -- book::tick_part
+  -- format::header::header_refusal
+  pub header-refusal : (b : List ℕ) (words : ℕ) → Once ℕ (λ r. r ≡ headerRefusal b words)
+  -- format::header::room_refusal
+  pub room-refusal : (T n count long : ℕ) → Once ℕ (λ r. r ≡ roomRefusal T n count long)
+  -- tick::tick_part
   pub tick-part : (ws : RefT (List ℕ)) (t : ℕ)
       → Once (List ℕ × (ℕ × ℕ)) (λ r. (r .0 ≡ tickPart (ws .now) t) × (r .1 ≡ wordAt ws (tickStart (ws .now) t)))
   -- strips: the first bad place, and a carrier's strip gathered into a list
@@ -151,9 +160,9 @@ pub record PromisesDetermine : Type 0 where
   pub is-entering : (kind : ℕ) → Once Bool (λ r. r ≡ entering kind)
   -- Group::settled
   pub settled : (g : Group) → Once Settled (λ r. r ≡ settledBy g)
-  -- book::tick::is_rising
+  -- tick::is_rising
   pub is-rising : (ws : List ℕ) → Once Bool (λ r. r ≡ rising ws)
-  -- book::tick::place_from
+  -- tick::place_from
   pub place-from : (ws : List ℕ) (t : ℕ) → Once ℕ (λ r. (r ≡ placeFrom ws t) × (r ≤ length ws))
   -- the pass over two strips: before the first tick, the next event, a tick's events taken, what the standing tells
   -- pass::begin
@@ -228,6 +237,8 @@ promises-determine = record {
   mask = λ gs m s. one (maskAnswer gs m s);
   judge = λ m s now r t p q. p .answer ∙ sym (q .answer);
   judge-bytes = λ m s now. one (packed (judgedFrom m s now));
+  judged = λ m s now. one (judgedFrom m s now);
+  pack = λ v. one (packed v);
   evidence = λ m s now. two (evidenceOf (judgedBy (m .now) (s .now) now) (m .now) (s .now)) (startOf (judgedBy (m .now) (s .now) now) m s);
   check = λ m s now. one (checked m s now check.refused check.accepted);
   spans = λ m s now list. two (spansAnswer m s now (length list)) (listAfter m s now list);
@@ -235,6 +246,8 @@ promises-determine = record {
   group-delivery = λ g. once-delivered (g .grants);
   reader = λ b list. two (bookRead b (length list)) (listRead b list);
   writer = λ T n ws buffer. two (bookWritten T n ws (length buffer)) (bufferWritten T n ws buffer);
+  header-refusal = λ b words. one (headerRefusal b words);
+  room-refusal = λ T n count long. one (roomRefusal T n count long);
   tick-part = λ ws t. two (tickPart (ws .now) t) (wordAt ws (tickStart (ws .now) t));
   first-bad = λ side now s. one (firstBad side now s);
   gather = λ words side n out at. two (gatheredEnd words side n out at) (gathered words side n out at);

@@ -12,11 +12,12 @@ use Rattle.base.proofs.Truth.{either}
 use Rattle.rules.specs.Ranges.{bookHeader, longestBook}
 use Rattle.rules.specs.Refusals.{badLength, badTotal, badHeader, badCount, badRecord, notRising, illFormed, shortBuffer, shortList}
 use Rattle.group.specs.Fresh.{freshGroup}
-use Rattle.book.specs.Book.{lengthOf, beyond}
-use Rattle.book.specs.Read.{totalIn, ticksIn, countIn, offsetIn, numberIn, recordsIn, headerRefusal, readRefusal, bookRead, listRead}
-use Rattle.book.specs.Records.{outside, notGreater, carrierOf, lastOf, breaks, recordRefusal, firstRefused, recordsRefusal}
+use Rattle.format.specs.Header.{lengthOf, beyond, totalIn, ticksIn, countIn, offsetIn, numberIn, headerRefusal, roomRefusal}
+use Rattle.book.specs.Read.{recordsIn, readRefusal, bookRead, listRead}
+use Rattle.book.specs.Records.{outside, carrierOf, lastOf, breaks, recordRefusal, firstRefused, recordsRefusal}
+use Rattle.tick.specs.Tick.{notGreater}
 use Rattle.book.specs.Records as records
-use Rattle.book.specs.Write.{roomRefusal, writeRefusal, bookWritten, bufferWritten}
+use Rattle.book.specs.Write.{writeRefusal, bookWritten, bufferWritten}
 use Rattle.book.specs.declared.Refusal as book
 use Rattle.book.proofs.Pass.{well-formed, none-refused}
 use Rattle.demands.specs.Lines.{Refusal, at, plain, none, Line, line, firstMet, eachBelow, Refuses}

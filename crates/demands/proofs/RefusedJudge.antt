@@ -28,7 +28,7 @@ use Rattle.judge.specs.Evidence.{evidenceOf}
 use Rattle.judge.specs.Judge.{judgedBy}
 use Rattle.wire.proofs.Words.{length-words}
 use Rattle.wire.specs.Words.{wordsIn}
-use Rattle.ferrulebee.specs.Judge.{wholeStrip, packed, judgedFrom}
+use Rattle.loader.specs.Judge.{wholeStrip, packed, judgedFrom}
 use Rattle.demands.specs.Lines.{Refusal, at, plain, none, Line, line, firstMet, Refuses}
 use Rattle.demands.specs.Refusals.{stripLines, judgeLines, bytesLines, refusedVerdict}
 use Rattle.demands.proofs.Lines.{any, first-each, first-each-last}

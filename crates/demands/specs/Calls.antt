@@ -9,7 +9,8 @@ use Rattle.event.specs.Word.{wordOf}
 use Rattle.group.specs.declared.CountAnswer.{CountAnswer}
 use Rattle.group.specs.declared.ReadAnswer.{ReadAnswer}
 use Rattle.store.specs.declared.Delivery.{Delivery}
-use Rattle.book.specs.Read.{ticksIn, numberIn, recordsIn}
+use Rattle.book.specs.Read.{recordsIn}
+use Rattle.format.specs.Header.{ticksIn, numberIn}
 use Rattle.demands.specs.Gate.{Gate}
 
 -- a request of a kind and a number; a close; a read by a model of a sheet; how many models may read a sheet; a delivery to a model, with its

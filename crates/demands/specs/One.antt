@@ -12,7 +12,7 @@ use lib.Dec.{eqb}
 use lib.ListN.{length, getD}
 use Rattle.rules.specs.Refusals.{badKind, badNumber, noTickLeft, secondEvent, alreadyIn, notIn, badList, badGroup, lateNow, longModel, longSheet, badModel, badSheet, badLength, badTotal, badHeader, badCount, badRecord, notRising, illFormed, shortBuffer, shortList, badStore, notInStore, badEntry, deliveryTooLong, tooManySpans}
 use Rattle.wire.specs.Words.{wordsIn}
-use Rattle.ferrulebee.specs.Judge.{packed}
+use Rattle.loader.specs.Judge.{packed}
 use Rattle.group.specs.Fresh.{freshGroup}
 use Rattle.group.specs.Read.{readNumber, grantOf}
 use Rattle.group.specs.declared.Group.{Group}

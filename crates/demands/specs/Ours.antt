@@ -5,7 +5,7 @@ use lib.ListN.{length}
 use Rattle.book.specs.Read.{bookRead, listRead}
 use Rattle.book.specs.Write.{bookWritten, bufferWritten}
 use Rattle.book.specs.declared.BookRead.{BookRead}
-use Rattle.ferrulebee.specs.Judge.{packed, judgedFrom}
+use Rattle.loader.specs.Judge.{packed, judgedFrom}
 use Rattle.group.specs.Close.{closeAnswer}
 use Rattle.group.specs.Count.{countAnswer}
 use Rattle.group.specs.Fresh.{freshAnswer}

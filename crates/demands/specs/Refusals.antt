@@ -15,7 +15,7 @@ use Rattle.strip.specs.Good.{goodPlace}
 use Rattle.formula.specs.declared.Verdict.{Verdict}
 use Rattle.formula.specs.declared.Verdict.the-variants as verdict
 use Rattle.wire.specs.Words.{wordsIn}
-use Rattle.ferrulebee.specs.Judge.{wholeStrip}
+use Rattle.loader.specs.Judge.{wholeStrip}
 use Rattle.span.specs.Answer.{spansIn}
 use Rattle.group.specs.Carrier.{carriers, entering}
 use Rattle.group.specs.Marks.{carrierMarked, carrierIn}
@@ -26,9 +26,10 @@ use Rattle.bits.specs.Granted.{granted}
 use Rattle.store.specs.Store.{sheetCount, goodStore}
 use Rattle.store.specs.declared.Delivery.{Delivery}
 use Rattle.store.specs.declared.Delivery.the-variants as delivery
-use Rattle.book.specs.Book.{lengthOf, beyond}
-use Rattle.book.specs.Read.{totalIn, ticksIn, countIn, offsetIn, numberIn, recordsIn}
-use Rattle.book.specs.Records.{outside, notGreater, carrierOf, lastOf, breaks}
+use Rattle.format.specs.Header.{lengthOf, beyond, totalIn, ticksIn, countIn, offsetIn, numberIn}
+use Rattle.book.specs.Read.{recordsIn}
+use Rattle.book.specs.Records.{outside, carrierOf, lastOf, breaks}
+use Rattle.tick.specs.Tick.{notGreater}
 use Rattle.demands.specs.Lines.{Refusal, at, plain, none, Line, line, eachBelow}
 
 -- ---- the group

@@ -20,7 +20,8 @@ use Rattle.strip.specs.History.{historyOf}
 use Rattle.judge.specs.Judge.{StripsAccepted}
 use Rattle.group.specs.declared.ReadAnswer.the-variants.{Granted}
 use Rattle.wire.specs.Word.{AllBytes}
-use Rattle.book.specs.Read.{ticksIn, countIn, numberIn, recordsIn}
+use Rattle.book.specs.Read.{recordsIn}
+use Rattle.format.specs.Header.{ticksIn, countIn, numberIn}
 use Rattle.demands.specs.Calls.{Call, startFresh, startBook, reach}
 use Rattle.demands.specs.Gate.{Gate}
 use Rattle.demands.specs.Gated.{Gated}

@@ -14,7 +14,7 @@ use Rattle.formula.specs.declared.Verdict.{Verdict}
 use Rattle.formula.specs.declared.Verdict.the-variants.{Granted, Denied, Refused}
 use Rattle.formula.specs.declared.Moment.the-variants.{Add, Join}
 use Rattle.judge.specs.Evidence.{placeOf, evidenceOf, startOf}
-use Rattle.book.specs.Tick.{rising, placeFrom, tickPart, tickStart}
+use Rattle.tick.specs.Tick.{rising, placeFrom, tickPart, tickStart}
 use Rattle.tick.proofs.Part.{no-part, part-here}
 use Rattle.ferrulebee.specs.declared.part.Part.{Part}
 use Rattle.ferrulebee.specs.Part.{sheetStrip, evidencePart, recordsPart}

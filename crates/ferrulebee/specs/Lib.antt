@@ -1,4 +1,3 @@
 pub mod Delivered
-pub mod Judge
 pub mod Part
 pub mod Read

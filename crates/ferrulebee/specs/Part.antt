@@ -6,7 +6,7 @@ use Rattle.formula.specs.declared.Verdict.{Verdict}
 use Rattle.formula.specs.declared.Verdict.the-variants.{Granted, Denied, Refused}
 use Rattle.formula.specs.declared.Moment.the-variants.{Add, Join}
 use Rattle.judge.specs.Evidence.{placeOf}
-use Rattle.book.specs.Tick.{tickPart, tickStart}
+use Rattle.tick.specs.Tick.{tickPart, tickStart}
 use Rattle.ferrulebee.specs.declared.part.Part.{Part}
 
 -- the model's strip is list 0, the sheet's is list 1

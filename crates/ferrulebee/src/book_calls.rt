@@ -2,7 +2,7 @@
 ghost use mathlib.Core.Path.{_≡_};
 ghost use lib.ListN.{length};
 ghost use Rattle.book.specs.Read.{bookRead, listRead};
-ghost use Rattle.book.specs.Tick.{tickStart};
+ghost use Rattle.tick.specs.Tick.{tickStart};
 ghost use Rattle.book.specs.Write.{bookWritten, bufferWritten};
 ghost use Rattle.ferrulebee.specs.Part.{recordsPart};
 use super::part::Part;
@@ -42,7 +42,7 @@ fn start(words: &[u32], tick: u32) -> usize
 pub extern "C" fn ferrulebee_tick_part(words: &[u32], tick: u32) -> Part
     ensures { λ r. ⌜ r ≡ recordsPart (words .entry .now) tick ⌝ }
 {
-    let part = book::tick_part(words, tick);
+    let part = tick::tick_part(words, tick);
     let count = part.len();
     Part {
         list: 0,

@@ -7,7 +7,7 @@ mod part;
 mod spans;
 
 ghost use mathlib.Core.Path.{_≡_};
-ghost use Rattle.ferrulebee.specs.Judge.{packed, judgedFrom};
+ghost use Rattle.loader.specs.Judge.{packed, judgedFrom};
 
 #[no_mangle]
 pub extern "C" fn judge(m: &[u8], s: &[u8], now: u32) -> u64

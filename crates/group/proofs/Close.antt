@@ -17,7 +17,8 @@ use Rattle.bits.specs.Set.{has, Words}
 use Rattle.bits.proofs.Bit.{bit-zero, bit-or, bit-and-not, bit-after}
 use Rattle.bits.proofs.Set.{has-either, has-after, words-either}
 use Rattle.group.specs.Carrier.{sheetWords}
-use Rattle.group.specs.Close.{closedMembers, removes, adds, closedAdded, closedLiberal, closedWord, closedWords, closedGroup, closeAnswer}
+use Rattle.group.specs.Close.{closedMembers, removes, adds, closedAdded, closedLiberal, closedGroup, closeAnswer}
+use Rattle.grants.specs.Words.{closedWord, closedWords}
 use Rattle.group.specs.Fits.{Fits}
 use Rattle.group.specs.Marks.{mark, modelIn, sheetIn, sheetInByLA}
 use Rattle.bits.specs.Granted.{granted}

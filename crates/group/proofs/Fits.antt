@@ -18,8 +18,9 @@ use Rattle.bits.specs.Set.{none}
 use Rattle.bits.proofs.Bit.{with-lt, and-lt, after-lt}
 use Rattle.bits.proofs.Set.{length-with, words-with, words-none, words-table, words-either, length-after, words-after}
 use Rattle.group.specs.Carrier.{ofModel, carriers, sheetWords}
-use Rattle.group.specs.Close.{closedMembers, removes, adds, closedAdded, closedLiberal, closedWord, closedWords, closedGroup, closeAnswer}
-use Rattle.group.specs.Fits.{Sized, Fits}
+use Rattle.group.specs.Close.{closedMembers, removes, adds, closedAdded, closedLiberal, closedGroup, closeAnswer}
+use Rattle.grants.specs.Words.{closedWord, closedWords, Sized}
+use Rattle.group.specs.Fits.{Fits}
 use Rattle.group.specs.Fresh.{freshGroup, freshAnswer}
 use Rattle.group.specs.Request.{markedWord, markedSet, markedGroup, requestAnswer}
 use Rattle.group.specs.declared.Group.{Group}

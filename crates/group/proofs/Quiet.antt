@@ -17,8 +17,9 @@ use Rattle.bits.specs.Set.{none, has, either, after}
 use Rattle.bits.proofs.Bit.{bit-zero, bit-ext}
 use Rattle.bits.proofs.Set.{bit-has, has-none, words-none}
 use Rattle.group.specs.Carrier.{sheetWords}
-use Rattle.group.specs.Close.{closedMembers, adds, closedAdded, closedLiberal, closedWord, closedWords, closedGroup}
-use Rattle.group.specs.Fits.{Sized, Fits}
+use Rattle.group.specs.Close.{closedMembers, adds, closedAdded, closedLiberal, closedGroup}
+use Rattle.grants.specs.Words.{closedWord, closedWords, Sized}
+use Rattle.group.specs.Fits.{Fits}
 use Rattle.group.specs.Fresh.{freshGroup}
 use Rattle.group.specs.Marks.{mark}
 use Rattle.group.specs.declared.Group.{Group}

@@ -18,7 +18,8 @@ use Rattle.bits.proofs.Set.{has-with}
 use Rattle.group.specs.Accepted.{RequestAccepted}
 use Rattle.group.proofs.Cases.{each-kind}
 use Rattle.group.specs.Carrier.{carriers, sheetWords}
-use Rattle.group.specs.Fits.{Sized, Fits}
+use Rattle.group.specs.Fits.{Fits}
+use Rattle.grants.specs.Words.{Sized}
 use Rattle.group.specs.Marks.{mark}
 use Rattle.group.specs.Request.{requestRefusal, markedWord, markedSet, markedGroup, requestAnswer}
 use Rattle.group.specs.declared.Group.{Group}

@@ -11,7 +11,7 @@ use Rattle.bits.specs.Set.{none, either, after}
 use Rattle.group.specs.Carrier.{sheetWords}
 use Rattle.group.specs.declared.Group.{Group}
 use Rattle.group.specs.declared.Answer.{Answer}
-unfoldable pub use Rattle.grants.specs.Words.{closedWord, closedWords}
+use Rattle.grants.specs.Words.{closedWords}
 
 -- a model is in: "(no SL and no LL) since a join of either kind"
 unfoldable pub closedMembers : Group → ℕ

@@ -4,7 +4,7 @@ use Rattle.rules.specs.Ranges.{sheets}
 use Rattle.bits.specs.Bit.{width}
 use Rattle.group.specs.Carrier.{sheetWords}
 use Rattle.group.specs.declared.Group.{Group}
-pub use Rattle.grants.specs.Words.{Sized}
+use Rattle.grants.specs.Words.{Sized}
 
 pub record Fits (g : Group) : Type 0 where
   pub number : g .number < 2 ^ 32

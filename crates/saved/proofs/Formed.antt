@@ -13,7 +13,8 @@ use lib.Seq.{length-take-le, getD-take}
 use borrow.Author.Tests.{leb-true, leb-false, ne-eqb, le-ltb, lt-leb}
 use Rattle.base.proofs.Truth.{either}
 use Rattle.event.specs.Word.{tickOf}
-use Rattle.book.specs.Records.{outside, notGreater, carrierOf, lastOf, breaks, recordRefusal, WellFormedRecords}
+use Rattle.book.specs.Records.{outside, carrierOf, lastOf, breaks, recordRefusal, WellFormedRecords}
+use Rattle.tick.specs.Tick.{notGreater}
 use Rattle.book.proofs.Pass.{Inside, Good, good}
 use Rattle.tick.proofs.Part.{climb}
 use Rattle.book.proofs.Promise.{formed-rises}

@@ -18,7 +18,8 @@ use Rattle.group.specs.declared.Group.{Group}
 use Rattle.history.specs.Run.{Reached, fresh, reached}
 use Rattle.history.proofs.Keep.{keep-all}
 use Rattle.book.specs.Calls.{bookCalls}
-use Rattle.book.specs.Read.{ticksIn, countIn, numberIn, recordsIn, bookRead, listRead}
+use Rattle.book.specs.Read.{recordsIn, bookRead, listRead}
+use Rattle.format.specs.Header.{ticksIn, countIn, numberIn}
 use Rattle.book.specs.Records.{WellFormedRecords}
 use Rattle.book.specs.Replay.{counted, closedUpTo, replayedGroup}
 use Rattle.book.specs.declared.BookRead.{BookRead}

@@ -14,8 +14,7 @@ use Rattle.base.proofs.First.{first-before}
 use Rattle.base.proofs.Truth.{either}
 use Rattle.history.specs.Strips.{keep}
 use Rattle.history.proofs.Keep.{keep-none}
-use Rattle.book.specs.Records.{notGreater}
-use Rattle.book.specs.Tick.{rising}
+use Rattle.tick.specs.Tick.{notGreater, rising}
 use Rattle.saved.specs.Saved.{howOften, InBookOrder}
 use Rattle.saved.proofs.Order.{passing-one}
 

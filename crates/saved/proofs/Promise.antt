@@ -20,11 +20,11 @@ use Rattle.history.specs.Run.{Move, request, close, Reached, step, run, fresh, 
 use Rattle.history.proofs.Agreed.{reached-agrees}
 use Rattle.history.proofs.Keep.{kept}
 use Rattle.history.proofs.Runs.{reached-append}
-use Rattle.book.specs.Book.{lengthOf}
+use Rattle.format.specs.Header.{lengthOf, ticksIn, numberIn, roomRefusal}
 use Rattle.book.specs.Calls.{bookCalls}
-use Rattle.book.specs.Read.{ticksIn, numberIn, recordsIn, bookRead}
+use Rattle.book.specs.Read.{recordsIn, bookRead}
 use Rattle.book.specs.Records.{WellFormedRecords}
-use Rattle.book.specs.Write.{roomRefusal, writeRefusal, bookWritten, bufferWritten}
+use Rattle.book.specs.Write.{writeRefusal, bookWritten, bufferWritten}
 use Rattle.book.proofs.Accepted.{good-write}
 use Rattle.book.proofs.Promise.{ReadAsWritten, formed-rises, write-then-read}
 use Rattle.kept.specs.Kept.{room}

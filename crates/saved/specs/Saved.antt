@@ -12,7 +12,7 @@ use Rattle.history.specs.Run.{Reached}
 use Rattle.history.specs.Strips.{keep}
 use Rattle.book.specs.Book.{Holdable}
 use Rattle.book.specs.Read.{recordsIn, bookRead}
-use Rattle.book.specs.Tick.{rising}
+use Rattle.tick.specs.Tick.{rising}
 use Rattle.book.specs.Write.{bookWritten}
 use Rattle.kept.specs.Kept.{room, closedEvents}
 use Rattle.saved.specs.Keeping.{Keeping}

@@ -1,5 +1,5 @@
 use mathlib.Core.Path.{ap, _∙_}
-use Rattle.ferrulebee.specs.Judge.{packed}
+use Rattle.loader.specs.Judge.{packed}
 use borrow.Author.Needs.{needs}
 use Rattle.ferrulebee.proofs.judge.Statement.{statement}
 use Rattle.ferrulebee.proofs.judge.Tie as tie

@@ -4,7 +4,7 @@ use mathlib.Core.Bool.{true, false}
 use mathlib.Core.List.{List}
 use Prim.Native.Nat.{ℕ}
 use borrow.Author.Tests.{not-true, not-false}
-use Rattle.book.specs.Tick.{rising, placeFrom, tickStart}
+use Rattle.tick.specs.Tick.{rising, placeFrom, tickStart}
 use borrow.Author.Needs.{needs}
 use Rattle.ferrulebee.proofs.book_calls.start.Statement.{statement}
 use Rattle.ferrulebee.proofs.book_calls.start.Tie as tie

@@ -4,7 +4,7 @@ use mir.Val.{Fits as FitsIn}
 use lib.ListN.{getD}
 use Rattle.rules.specs.Ranges.{sheets}
 use Rattle.group.specs.Close.{closedGroup}
-use Rattle.group.specs.Fits.{Sized}
+use Rattle.grants.specs.Words.{Sized}
 use borrow.Author.Needs.{needs}
 use Rattle.group.proofs.Group.after_close.Statement.{statement}
 use Rattle.group.proofs.Group.after_close.Tie as tie
