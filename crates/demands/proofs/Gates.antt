@@ -15,11 +15,9 @@ use Rattle.bits.specs.Granted.{granted}
 use Rattle.bits.proofs.Bit.{bit-zero}
 use Rattle.group.specs.Read.{readRefusal, readAnswer}
 use Rattle.group.specs.declared.Group.{Group}
-use Rattle.group.specs.declared.ReadAnswer.{ReadAnswer}
 use Rattle.group.specs.declared.ReadAnswer.the-variants.{Granted, Denied}
 use Rattle.group.proofs.Request.{request-code}
 use Rattle.station.specs.Mask.{maskOf, listRefusal, answerWith, maskAnswer}
-use Rattle.station.specs.declared.MaskAnswer.{MaskAnswer}
 use Rattle.station.proofs.Positions.{mask-bit, mask-none, grants-granted}
 use Rattle.history.specs.Run.{Move, Reached, run, reached}
 use Rattle.history.proofs.Answers.{read-granted}
@@ -33,7 +31,7 @@ use Rattle.book.specs.declared.BookRead.{BookRead}
 use Rattle.book.proofs.Accepted.{read-code, read-headed, read-formed, good-read}
 use Rattle.book.proofs.Replaying.{replay-reached, replay-calls}
 use Rattle.demands.specs.Calls.{Call, Run, startFresh, startBook, reach}
-use Rattle.demands.specs.Gated.{Granting, Gated}
+use Rattle.demands.specs.Gated.{Gated}
 use Rattle.demands.specs.Ours.{ours}
 use Rattle.demands.proofs.Counted.{book-stands}
 use Rattle.demands.proofs.Moving.{moving, standing, of, asked, reach-moving, fresh-number, fresh-reach, run-number}

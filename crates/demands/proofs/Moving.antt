@@ -4,14 +4,14 @@ use mathlib.Core.Path.{_≡_, refl, sym, ap, _∙_}
 use mathlib.Core.Bool.{true, false, cond}
 use mathlib.Core.Logic.{⊎-elim}
 use mathlib.Core.List.{List, [], _∷_, _++_}
-use Prim.Native.Nat.{ℕ, _+_, _≤_, _<_}
+use Prim.Native.Nat.{ℕ, _+_, _≤_}
 use native.Mathlib.Omega.{arith}
 use lib.Dec.{eqb, ltb}
 use borrow.Author.Tests.{ltb-true, ltb-false, lt-leb, le-leb}
 use Rattle.base.proofs.Truth.{either}
 use Rattle.rules.specs.Ranges.{groups, ticks}
 use Rattle.event.specs.Word.{wordOf}
-use Rattle.group.specs.Close.{closedGroup, closeAnswer}
+use Rattle.group.specs.Close.{closeAnswer}
 use Rattle.group.specs.Fresh.{freshGroup, freshAnswer}
 use Rattle.group.specs.Request.{requestAnswer}
 use Rattle.group.specs.declared.Answer.{Answer}

@@ -26,7 +26,7 @@ use Rattle.store.specs.declared.Delivery.{Delivery}
 use Rattle.store.specs.declared.Delivery.the-variants.{Delivered, Refused}
 use Rattle.store.proofs.Listed.{behind, inside, delivery-count, delivery-total, delivery-lists, delivered-exactly}
 use Rattle.store.proofs.Parts.{length-sheet, part-number, part-bytes, part-next}
-use Rattle.demands.specs.Delivered.{Part, partsOf, partsIn, flatParts, stored, Holds}
+use Rattle.demands.specs.Delivered.{partsOf, partsIn, flatParts, stored, Holds}
 
 -- ---- what `Delivered` tells
 

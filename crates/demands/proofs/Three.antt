@@ -1,6 +1,5 @@
 -- Our gate meets demand 3 (specs/Three.antt). Assumes nothing.
 use mathlib.Core.Path.{refl}
-use mathlib.Core.List.{[]}
 use Rattle.group.proofs.Fits.{freshAnswer-fits}
 use Rattle.demands.specs.Ours.{ours}
 use Rattle.demands.specs.Three.{DemandThree}

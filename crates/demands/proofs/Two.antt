@@ -1,6 +1,5 @@
 -- Our gate meets demand 2 (specs/Two.antt). Assumes nothing.
 use mathlib.Core.Path.{ap}
-use mathlib.Core.List.{List}
 use Rattle.judge.proofs.Promise.{judge-means, judge-grants}
 use Rattle.book.specs.declared.BookRead.{BookRead}
 use Rattle.book.proofs.Promise.{write-then-read, read-then-write}

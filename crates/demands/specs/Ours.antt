@@ -1,6 +1,4 @@
 -- Our gate: each call as its public promise has it, over the record that a group is. These are the definitions that the contracts cite.
-use mathlib.Core.List.{List}
-use Prim.Native.Nat.{ℕ}
 use lib.ListN.{length}
 use Rattle.book.specs.Read.{bookRead, listRead}
 use Rattle.book.specs.Write.{bookWritten, bufferWritten}

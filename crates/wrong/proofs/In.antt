@@ -1,6 +1,6 @@
 -- Who is in after a story, on a gate whose groups move as ours do. Assumes nothing.
 use mathlib.Core.Path.{_≡_, refl, sym, ap₂, _∙_, subst}
-use mathlib.Core.Bool.{Bool, true, not}
+use mathlib.Core.Bool.{true, not}
 use mathlib.Core.List.{List, [], _∷_}
 use Prim.Native.Nat.{ℕ, _<_}
 use lib.ListN.{length}
@@ -20,7 +20,7 @@ use Rattle.demands.specs.Ours.{ours}
 use Rattle.demands.proofs.Gates.{fresh-gated}
 use Rattle.demands.proofs.Moving.{moving, fresh-reach}
 use Rattle.wrong.specs.Gates.{replacing}
-use Rattle.wrong.proofs.Story.{Turn, Told, callsOf, tellAll, allFit, begins, stands}
+use Rattle.wrong.proofs.Story.{Turn, callsOf, tellAll, allFit, begins, stands}
 
 -- a gate with our fresh groups, requests and closes
 module _ (reads : Group → ℕ → ℕ → ReadAnswer) (masks : List Group → ℕ → ℕ → MaskAnswer) (delivers : Group → ℕ → List ℕ → List ℕ → Delivery)

@@ -3,8 +3,7 @@
 use mathlib.Core.Path.{_≡_, refl, sym, ap, ap₂, _∙_, subst}
 use mathlib.Core.Bool.{Bool, true, false, cond, _&&_, true≢false}
 use mathlib.Core.List.{List, [], _∷_, _++_, append-assoc}
-use Prim.Native.Nat.{ℕ, zero, suc, _+_, _≤_, _<_}
-use native.Mathlib.Omega.{arith}
+use Prim.Native.Nat.{ℕ, _+_}
 use lib.Dec.{eqb, leb, ltb}
 use lib.ListN.{length}
 use borrow.Author.Tests.{leb-true, ltb-true, eq-eqb}
@@ -12,7 +11,6 @@ use Rattle.base.proofs.Truth.{both}
 use Rattle.rules.specs.Kinds.{LR}
 use Rattle.rules.specs.Ranges.{ticks}
 use Rattle.event.specs.Word.{wordOf}
-use Rattle.formula.specs.Formula.{Grant}
 use Rattle.formula.specs.Ticks.{grant}
 use Rattle.formula.proofs.Meaning.{means-grant}
 use Rattle.group.specs.Carrier.{carriers}

@@ -1,8 +1,8 @@
 -- The demands shut out every gate of specs/Gates.antt, and a gate that answers everybody alike meets demand 3 alone. Assumes nothing.
 use mathlib.Core.Path.{_≡_, refl, sym, ap, ap₂, _∙_, subst}
-use mathlib.Core.Bool.{Bool, true, false, cond, _||_, true≢false, false≢true}
+use mathlib.Core.Bool.{Bool, true, false, cond, _||_, true≢false}
 use mathlib.Core.List.{List, [], _∷_, _++_}
-use Prim.Native.Nat.{ℕ, zero, suc, _+_, _≤_, _<_}
+use Prim.Native.Nat.{ℕ, zero, _+_, _<_}
 use native.Mathlib.Omega.{arith}
 use lib.Dec.{eqb}
 use lib.ListN.{length, getD, drop}
@@ -21,6 +21,7 @@ use Rattle.strip.specs.declared.Side.the-variants.{Model, Sheet}
 use Rattle.strip.proofs.Bad.{all-good}
 use Rattle.judge.specs.Judge.{StripsAccepted}
 use Rattle.bits.specs.Bit.{bit}
+use Rattle.book.specs.Replay.{counted}
 use Rattle.bits.specs.Granted.{granted}
 use Rattle.bits.proofs.Bit.{bit-zero}
 use Rattle.group.specs.Close.{closeAnswer}
@@ -38,7 +39,7 @@ use Rattle.group.proofs.Request.{bit-marked, request-keeps}
 use Rattle.history.specs.Strips.{keep}
 use Rattle.history.proofs.Answers.{read-granted}
 use Rattle.demands.specs.Alike.{shared, answersOf, Alike, done, both, stores, left, right}
-use Rattle.demands.specs.Calls.{Call, request, close, read, count, deliver, Answer, coded, shown, delivered, answerTo, Run, startFresh, startBook, next, reach}
+use Rattle.demands.specs.Calls.{Call, request, close, read, count, deliver, Answer, delivered, answerTo, Run, startFresh, startBook, next, reach}
 use Rattle.demands.specs.Delivered.{partsOf, partsIn, flatParts}
 use Rattle.demands.specs.Gated.{Gated}
 use Rattle.demands.specs.One.{DemandOne}
@@ -48,7 +49,7 @@ use Rattle.demands.specs.Ours.{ours}
 use Rattle.demands.specs.Refusals.{refusedDelivery}
 use Rattle.demands.proofs.One.{demand-one}
 use Rattle.demands.proofs.Two.{demand-two}
-use Rattle.wrong.specs.Gates.{taken, oneMore, unsaid, padded, hidden, refusesAll, deniesAll, idle, counting, frozen, late, nameless, leak, unsaying, telling, overhanging, storing, undelivering, inventing, padding}
+use Rattle.wrong.specs.Gates.{taken, unsaid, padded, hidden, refusesAll, deniesAll, idle, counting, frozen, late, nameless, leak, unsaying, telling, overhanging, storing, undelivering, inventing, padding}
 use Rattle.wrong.proofs.Story.{Turn, ask, tick, begins, tellAll, allFit, callsOf, tests, well-formed, does-grant, grants-not}
 use Rattle.wrong.proofs.In.{same-reach, in-after}
 use Rattle.wrong.proofs.Fresh.{nobody, store, fresh-delivers, fresh-buffer}
@@ -96,7 +97,7 @@ unfolding reach next freshAnswer freshGroup
 does-nothing d = let e = d .gate 0 (close ∷ []) .closed in absurd (omega (arith, e))
 
 only-counts : DemandTwo counting → ⊥
-unfolding reach next callsOf freshAnswer
+unfolding counted reach next callsOf freshAnswer
 only-counts d =
     let granting = does-grant counting 0 (d .gate 0) meeting meeting-fits 0 0 meeting-grants in
     let g = requestAnswer (freshAnswer 0 .group) LJ 0 .group in
@@ -125,16 +126,16 @@ quiet-grants = refl
 
 -- the first close is right, so it grants nothing; the second leaves the grants
 freezes : DemandTwo frozen → ⊥
-unfolding reach next callsOf freshAnswer freshGroup
+unfolding counted reach next callsOf freshAnswer freshGroup
 freezes d =
     let g0 = closeAnswer (freshAnswer 0 .group) .group in
     let g1 = requestAnswer g0 LJ 0 .group in
     let g2 = requestAnswer g1 LA 0 .group in
     let once : g2 .closed ≡ 1 = d .gate 0 (close ∷ request LJ 0 ∷ request LA 0 ∷ []) .closed in
     let later : eqb (g2 .closed) 0 ≡ false = ne-eqb (g2 .closed) 0 (λ e. absurd (omega arith)) in
-    let end : Group = cond (eqb (g2 .closed) 0) (ours .close g2) (taken (oneMore g2)) .group in
+    let end : Group = cond (eqb (g2 .closed) 0) (ours .close g2) (taken (counted g2 (g2 .closed + 1))) .group in
     let same : end .grants ≡ g0 .grants =
-    ap (λ (b : Bool). cond b (ours .close g2) (taken (oneMore g2)) .group .grants) later ∙ request-keeps g1 LA 0 .grants ∙ request-keeps g0 LJ 0 .grants in
+    ap (λ (b : Bool). cond b (ours .close g2) (taken (counted g2 (g2 .closed + 1))) .group .grants) later ∙ request-keeps g1 LA 0 .grants ∙ request-keeps g0 LJ 0 .grants in
     let granting = does-grant frozen 0 (d .gate 0) second second-fits 0 0 second-grants in
     let read = d .gate 0 (callsOf second) .read 0 0 (omega arith) (omega arith) .1 granting in
     let bit-on : granted (end .grants) 0 0 ≡ true = read-granted end 0 0 (omega arith) (omega arith) .0 read in

@@ -1,13 +1,13 @@
 -- Wrong gates. Each is ours but for what its comment says.
-use mathlib.Core.Bool.{Bool, cond, _&&_, _||_}
+use mathlib.Core.Bool.{cond, _&&_}
 use mathlib.Core.List.{List, [], _∷_, _++_}
 use Prim.Native.Nat.{ℕ, _+_, _-_, _^_}
 use lib.Dec.{eqb, leb}
 use lib.ListN.{length, take, drop}
-use Rattle.rules.specs.Ranges.{models, sheets}
-use Rattle.rules.specs.Refusals.{badKind, badNumber, noTickLeft, badList, badGroup, lateNow, longModel, badLength, badHeader, badStore}
+use Rattle.rules.specs.Ranges.{sheets}
+use Rattle.rules.specs.Refusals.{badKind, badNumber, noTickLeft, badList, badGroup, lateNow, badLength, badHeader, badStore}
 use Rattle.wire.specs.Word.{le32, bytes32}
-use Rattle.book.specs.declared.BookWritten.{BookWritten}
+use Rattle.book.specs.Replay.{counted}
 use Rattle.formula.specs.declared.Cause.the-variants.{None}
 use Rattle.formula.specs.declared.Verdict.{Verdict}
 use Rattle.formula.specs.declared.Verdict.the-variants as verdict
@@ -88,32 +88,13 @@ deniesAll = replacing (ours .fresh) (ours .request) (ours .close) (ours .read) (
 abbrev pub idle : Gate Group
 idle = replacing (ours .fresh) (ours .request) taken (ours .read) (ours .mask) (ours .deliver) (ours .delivered) (ours .judge)
 
--- the group with one tick more closed, and all else as it was
-abbrev pub oneMore : Group → Group
-oneMore g = record {
-  number = g .number;
-  closed = g .closed + 1;
-  members = g .members;
-  sj = g .sj;
-  lj = g .lj;
-  sl = g .sl;
-  ll = g .ll;
-  added = g .added;
-  liberal = g .liberal;
-  sa = g .sa;
-  la = g .la;
-  sr = g .sr;
-  lr = g .lr;
-  grants = g .grants;
-}
-
 -- a close that counts the tick, and does nothing else
 abbrev pub counting : Gate Group
-counting = replacing (ours .fresh) (ours .request) (λ g. taken (oneMore g)) (ours .read) (ours .mask) (ours .deliver) (ours .delivered) (ours .judge)
+counting = replacing (ours .fresh) (ours .request) (λ g. taken (counted g (g .closed + 1))) (ours .read) (ours .mask) (ours .deliver) (ours .delivered) (ours .judge)
 
 -- right in the first tick; later ticks are oneMore, and nothing else happens
 abbrev pub frozen : Gate Group
-frozen = replacing (ours .fresh) (ours .request) (λ g. cond (eqb (g .closed) 0) (ours .close g) (taken (oneMore g))) (ours .read) (ours .mask) (ours .deliver) (ours .delivered) (ours .judge)
+frozen = replacing (ours .fresh) (ours .request) (λ g. cond (eqb (g .closed) 0) (ours .close g) (taken (counted g (g .closed + 1)))) (ours .read) (ours .mask) (ours .deliver) (ours .delivered) (ours .judge)
 
 -- keeps the group as it was before the last close, and shows that one: late by one tick
 pub record Late : Type 0 where

@@ -1,5 +1,5 @@
 -- The part of a list that holds the decoded words is those words.
-use mathlib.Core.Path.{sym, ap₂, _∙_}
+use mathlib.Core.Path.{ap₂, _∙_}
 use mathlib.Core.List.{List}
 use Prim.Native.Nat.{ℕ, _-_}
 use Rattle.wire.proofs.Words.{lent}

@@ -1,5 +1,5 @@
 -- The refusals are the tests that led to them; past them both strips are whole words, and few enough.
-use mathlib.Core.Path.{_≡_, refl, sym, ap, _∙_}
+use mathlib.Core.Path.{_≡_, sym, ap, _∙_}
 use mathlib.Core.Bool.{true, not}
 use Prim.Native.Nat.{ℕ, _/_, _%_, _*_, _≤_}
 use native.Mathlib.Omega.{arith}
