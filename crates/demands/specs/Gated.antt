@@ -10,7 +10,7 @@ use Rattle.rules.specs.Ranges.{models, sheets, events}
 use Rattle.formula.specs.Formula.{History, Grant}
 use Rattle.formula.specs.Ticks.{grant}
 use Rattle.formula.specs.declared.Moment.{Moment}
-use Rattle.formula.specs.declared.Verdict.the-variants.{Granted as Judges}
+use Rattle.formula.specs.declared.Verdict.the-variants.{Granted as VerdictGranted}
 use Rattle.strip.specs.declared.Side.{Side}
 use Rattle.strip.specs.declared.Side.the-variants.{Model, Sheet}
 use Rattle.strip.specs.Good.{range, Good}
@@ -50,7 +50,7 @@ pub record Gated {State : Type 0} (G : Gate State) (r : Run State) : Type 0 wher
   -- the judge, asked for the history
   pub good : (side : Side) (n : ℕ) → n < range side → Good side (r .closed) (strip r side n)
   pub judge : (m s : ℕ) → m < models → s < sheets → length (strip r Model m) ≤ events → length (strip r Sheet s) ≤ events
-      → ((x : Moment) × (G .judge (strip r Model m) (strip r Sheet s) (r .closed) ≡ Judges x)) ↔ Granting r m s
+      → ((x : Moment) × (G .judge (strip r Model m) (strip r Sheet s) (r .closed) ≡ VerdictGranted x)) ↔ Granting r m s
   -- an event is accepted exactly when it is well-formed
   pub accepts : (kind n : ℕ) → (G .request (r .group) kind n .code ≡ 0) ↔ WellFormed (r .closed) (r .events) kind n
   -- a delivery

@@ -15,7 +15,7 @@ use Rattle.bits.specs.Bit.{bit}
 use Rattle.formula.specs.Formula.{Grant}
 use Rattle.formula.specs.Judged.{Judged}
 use Rattle.formula.specs.declared.Moment.{Moment}
-use Rattle.formula.specs.declared.Verdict.the-variants.{Granted as Judges}
+use Rattle.formula.specs.declared.Verdict.the-variants.{Granted as VerdictGranted}
 use Rattle.strip.specs.History.{historyOf}
 use Rattle.judge.specs.Judge.{StripsAccepted}
 use Rattle.group.specs.declared.ReadAnswer.the-variants.{Granted}
@@ -37,7 +37,7 @@ pub record ReadBack {State : Type 0} (G : Gate State) (T number : ℕ) (ws b lis
 pub record DemandTwo {State : Type 0} (G : Gate State) : Type 0 where
   -- from the history: of any strips that the judge takes
   pub judge : (m s : List ℕ) (now : ℕ) → StripsAccepted m s now
-      → (((x : Moment) × (G .judge m s now ≡ Judges x)) ↔ Grant (historyOf m) (historyOf s) now) × Judged (historyOf m) (historyOf s) now (G .judge m s now)
+      → (((x : Moment) × (G .judge m s now ≡ VerdictGranted x)) ↔ Grant (historyOf m) (historyOf s) now) × Judged (historyOf m) (historyOf s) now (G .judge m s now)
   -- from the running gate: of any group that calls have reached from fresh
   pub gate : (number : ℕ) (calls : List Call) → Gated G (reach G (startFresh G number) calls)
   -- the same from an accepted book, and any calls on the group that it was read into
