@@ -42,11 +42,11 @@ use Rattle.group.specs.declared.Settled.{Settled}
 use Rattle.judge.specs.Checked as check
 use Rattle.judge.specs.Evidence.{evidenceOf, startOf}
 use Rattle.judge.specs.Judge.{checked, judgedBy, Judges}
-use Rattle.judge.specs.Scan.{headOf, stepOf, holding, toldBy}
+use Rattle.standing.specs.Scan.{headOf, stepOf, holding, toldBy}
 use Rattle.judge.specs.declared.check.Checked.{Checked}
-use Rattle.judge.specs.declared.scan.Head.{Head}
-use Rattle.judge.specs.declared.scan.Seen.{Seen}
-use Rattle.judge.specs.declared.scan.Standing.{Standing}
+use Rattle.standing.specs.declared.Head.{Head}
+use Rattle.standing.specs.declared.Seen.{Seen}
+use Rattle.standing.specs.declared.Standing.{Standing}
 use Rattle.kept.specs.Inserted.{insertedCount, insertedList}
 use Rattle.kept.specs.Kept.{room, openWord, recordsOf, startedWith, requestedKept, requestedList, closedKept, closedEvents}
 use Rattle.kept.specs.declared.Kept.{Kept}
@@ -167,13 +167,13 @@ pub record PromisesDetermine : Type 0 where
   -- the pass over two strips: before the first tick, the next event, a tick's events taken, what the standing tells
   -- pass::begin
   pub begin : (m s : List ℕ) → Once Pass (λ r. r ≡ begun m s)
-  -- judge::scan::next_event
+  -- standing::next_event
   pub next-event : (s : List ℕ) (i : ℕ) → Once Head (λ r. r ≡ headOf s i)
-  -- judge::scan::step
+  -- standing::step
   pub scan-step : (seen : Seen) (t model sheet : ℕ) → Once Seen (λ r. r ≡ stepOf seen t model sheet)
-  -- judge::scan::holds
+  -- standing::holds
   pub holds : (x : Standing) → Once Bool (λ r. r ≡ holding x)
-  -- judge::scan::told
+  -- standing::told
   pub told : (x : Standing) → Once Verdict (λ r. r ≡ toldBy x)
   -- the accepted events as the keeper keeps them: a list for them, an event's word, how many records a book has, a start, and after each call
   -- kept::space

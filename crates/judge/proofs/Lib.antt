@@ -1,6 +1,4 @@
--- Laws of the judge's pass.
+-- Laws of the judge.
 pub mod Checked
 pub mod Histories
-pub mod Pass
 pub mod Promise
-pub mod Standing

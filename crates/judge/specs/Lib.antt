@@ -2,4 +2,3 @@ pub mod Checked
 pub mod Evidence
 pub mod Histories
 pub mod Judge
-pub mod Scan

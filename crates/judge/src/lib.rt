@@ -14,6 +14,6 @@ pub fn judge(m: &[u32], s: &[u32], now: u32) -> Verdict
         return Verdict::Refused(checked.code, checked.place);
     }
     let seen = scan::scan(m, s);
-    let standing = seen.standing;
-    scan::told(standing)
+    let stands = seen.standing;
+    standing::told(stands)
 }

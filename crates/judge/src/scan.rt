@@ -5,116 +5,9 @@ ghost use lib.ListN.{length};
 ghost use Rattle.rules.specs.Ranges.{events};
 ghost use Rattle.strip.specs.History.{historyOf};
 ghost use Rattle.strip.proofs.Places.{Rising, UpTo};
-ghost use Rattle.judge.specs.Scan.{toldBy, holding, endedBy, standsAfter, stepOf, scanTo, headOf};
-use formula::Cause;
-use formula::Moment;
-use formula::Verdict;
-
-// How the pair stands after a tick: the latest moment, or the strict event that ended the grant, with its tick.
-pub enum Standing {
-    Never,
-    ByAdd(u32),
-    ByJoin(u32),
-    Left(u32),
-    Removed(u32),
-}
-
-// What the pass knows after a tick: the model is in, the sheet's liberal stay, how the pair stands.
-pub struct Seen {
-    pub inside: bool,
-    pub liberal: bool,
-    pub standing: Standing,
-}
-
-// The next event of a strip: its tick and kind; past the strip's end no tick comes.
-pub struct Head {
-    pub tick: u32,
-    pub kind: u32,
-}
-
-// Above the tick of any word.
-pub const NEVER: u32 = 1048576;
-
-// A strict event ends a grant and nothing else.
-fn ended(before: Standing, end: Standing) -> Standing
-    ensures { λ r. ⌜ r ≡ endedBy before end ⌝ }
-{
-    match before {
-        Standing::ByAdd(_) => end,
-        Standing::ByJoin(_) => end,
-        Standing::Never => before,
-        Standing::Left(_) => before,
-        Standing::Removed(_) => before,
-    }
-}
-
-fn stands(
-    before: Standing,
-    tick: u32,
-    added: bool,
-    joined: bool,
-    left: bool,
-    removed: bool,
-) -> Standing
-    ensures { λ r. ⌜ r ≡ standsAfter before tick added joined left removed ⌝ }
-{
-    if added {
-        return Standing::ByAdd(tick);
-    }
-    if joined {
-        return Standing::ByJoin(tick);
-    }
-    if left {
-        return ended(before, Standing::Left(tick));
-    }
-    if removed {
-        return ended(before, Standing::Removed(tick));
-    }
-    before
-}
-
-// One tick with its events.
-pub fn step(before: Seen, tick: u32, model: u32, sheet: u32) -> Seen
-    ensures { λ r. ⌜ r ≡ stepOf before tick model sheet ⌝ }
-{
-    let join = (model == rules::SJ) | (model == rules::LJ);
-    let leave = (model == rules::SL) | (model == rules::LL);
-    let add = (sheet == rules::SA) | (sheet == rules::LA);
-    let remove = (sheet == rules::SR) | (sheet == rules::LR);
-    let inside = join | (!leave & before.inside);
-    let liberal = (sheet == rules::LA) | (!remove & before.liberal);
-    let stood = before.standing;
-    let standing = stands(
-        stood,
-        tick,
-        add & inside,
-        (model == rules::LJ) & liberal,
-        model == rules::SL,
-        sheet == rules::SR,
-    );
-    Seen {
-        inside,
-        liberal,
-        standing,
-    }
-}
-
-pub fn next_event(s: &[u32], i: usize) -> Head
-    ensures { λ r. ⌜ r ≡ headOf (s .entry .now) i ⌝ }
-{
-    if i < s.len() {
-        let word = s[i];
-        Head {
-            tick: event::tick(word),
-            kind: event::kind(word),
-        }
-    } else {
-        Head {
-            tick: NEVER,
-            kind: rules::QUIET,
-        }
-    }
-}
+ghost use Rattle.standing.specs.Scan.{scanTo};
+use standing::Seen;
+use standing::Standing;
 
 pub fn scan(m: &[u32], s: &[u32]) -> Seen
     requires { ⌜ Rising (m .now) × Rising (s .now) × (length (m .now) ≤ events) × (length (s .now) ≤ events) ⌝ }
@@ -128,49 +21,24 @@ pub fn scan(m: &[u32], s: &[u32]) -> Seen
     let mut i: usize = 0;
     let mut j: usize = 0;
     // The heads stand in variables: a turn reads only the strip whose event it takes.
-    let mut a = next_event(m, 0);
-    let mut b = next_event(s, 0);
+    let mut a = standing::next_event(m, 0);
+    let mut b = standing::next_event(s, 0);
     while i + j < m.len() + s.len() {
         if a.tick < b.tick {
-            seen = step(seen, a.tick, a.kind, rules::QUIET);
+            seen = standing::step(seen, a.tick, a.kind, rules::QUIET);
             i += 1;
-            a = next_event(m, i);
+            a = standing::next_event(m, i);
         } else if b.tick < a.tick {
-            seen = step(seen, b.tick, rules::QUIET, b.kind);
+            seen = standing::step(seen, b.tick, rules::QUIET, b.kind);
             j += 1;
-            b = next_event(s, j);
+            b = standing::next_event(s, j);
         } else {
-            seen = step(seen, a.tick, a.kind, b.kind);
+            seen = standing::step(seen, a.tick, a.kind, b.kind);
             i += 1;
             j += 1;
-            a = next_event(m, i);
-            b = next_event(s, j);
+            a = standing::next_event(m, i);
+            b = standing::next_event(s, j);
         }
     }
     seen
-}
-
-// The grant holds.
-pub fn holds(standing: Standing) -> bool
-    ensures { λ r. ⌜ r ≡ holding standing ⌝ }
-{
-    match standing {
-        Standing::Never => false,
-        Standing::ByAdd(_) => true,
-        Standing::ByJoin(_) => true,
-        Standing::Left(_) => false,
-        Standing::Removed(_) => false,
-    }
-}
-
-pub fn told(standing: Standing) -> Verdict
-    ensures { λ r. ⌜ r ≡ toldBy standing ⌝ }
-{
-    match standing {
-        Standing::Never => Verdict::Denied(Cause::None),
-        Standing::ByAdd(tick) => Verdict::Granted(Moment::Add(tick)),
-        Standing::ByJoin(tick) => Verdict::Granted(Moment::Join(tick)),
-        Standing::Left(_) => Verdict::Denied(Cause::StrictLeave),
-        Standing::Removed(_) => Verdict::Denied(Cause::StrictRemove),
-    }
 }

@@ -10,9 +10,9 @@ use lib.ListN.{length}
 use borrow.Author.Tests.{ltb-true, ltb-false}
 use Rattle.base.proofs.Truth.{either}
 use Rattle.strip.proofs.Places.{tickAt, Rising}
-use Rattle.judge.specs.Scan.{never, headOf}
-use Rattle.judge.specs.declared.scan.Head.{Head}
-use Rattle.judge.proofs.Pass.{Place, place, Passed, Turned, pass-start, model-first, sheet-first, both-first}
+use Rattle.standing.specs.Scan.{never, headOf}
+use Rattle.standing.specs.declared.Head.{Head}
+use Rattle.standing.proofs.Pass.{Place, place, Passed, Turned, pass-start, model-first, sheet-first, both-first}
 use Rattle.pass.specs.Pass.{begun, modelTaken, sheetTaken, bothTaken, advanced}
 use Rattle.pass.specs.declared.Pass.{Pass}
 

@@ -4,16 +4,15 @@ ghost use mathlib.Core.Path.{_≡_};
 ghost use Prim.Native.Nat.{_≤_};
 ghost use lib.ListN.{length};
 ghost use Rattle.pass.specs.Pass.{begun, advanced};
-use judge::scan;
 
 // Where the pass stands: the places of the next events, what these are, the last tick taken, and what is known after it.
 pub struct Pass {
     pub i: usize,
     pub j: usize,
-    pub model: scan::Head,
-    pub sheet: scan::Head,
+    pub model: standing::Head,
+    pub sheet: standing::Head,
     pub tick: u32,
-    pub seen: scan::Seen,
+    pub seen: standing::Seen,
 }
 
 // Before the first tick.
@@ -23,13 +22,13 @@ pub fn begin(m: &[u32], s: &[u32]) -> Pass
     Pass {
         i: 0,
         j: 0,
-        model: scan::next_event(m, 0),
-        sheet: scan::next_event(s, 0),
+        model: standing::next_event(m, 0),
+        sheet: standing::next_event(s, 0),
         tick: 0,
-        seen: scan::Seen {
+        seen: standing::Seen {
             inside: false,
             liberal: false,
-            standing: scan::Standing::Never,
+            standing: standing::Standing::Never,
         },
     }
 }
@@ -47,10 +46,10 @@ pub fn advance(m: &[u32], s: &[u32], pass: Pass) -> Pass
         return Pass {
             i,
             j: pass.j,
-            model: scan::next_event(m, i),
+            model: standing::next_event(m, i),
             sheet,
             tick: model.tick,
-            seen: scan::step(seen, model.tick, model.kind, rules::QUIET),
+            seen: standing::step(seen, model.tick, model.kind, rules::QUIET),
         };
     }
     if sheet.tick < model.tick {
@@ -59,9 +58,9 @@ pub fn advance(m: &[u32], s: &[u32], pass: Pass) -> Pass
             i: pass.i,
             j,
             model,
-            sheet: scan::next_event(s, j),
+            sheet: standing::next_event(s, j),
             tick: sheet.tick,
-            seen: scan::step(seen, sheet.tick, rules::QUIET, sheet.kind),
+            seen: standing::step(seen, sheet.tick, rules::QUIET, sheet.kind),
         };
     }
     let i = pass.i + 1;
@@ -69,9 +68,9 @@ pub fn advance(m: &[u32], s: &[u32], pass: Pass) -> Pass
     Pass {
         i,
         j,
-        model: scan::next_event(m, i),
-        sheet: scan::next_event(s, j),
+        model: standing::next_event(m, i),
+        sheet: standing::next_event(s, j),
         tick: model.tick,
-        seen: scan::step(seen, model.tick, model.kind, sheet.kind),
+        seen: standing::step(seen, model.tick, model.kind, sheet.kind),
     }
 }

@@ -12,10 +12,10 @@ use Rattle.formula.specs.Ticks.{grant}
 use Rattle.formula.proofs.Move.{grant-start}
 use Rattle.strip.specs.History.{historyOf}
 use Rattle.strip.proofs.Places.{Rising, UpTo}
-use Rattle.judge.specs.Scan.{holding}
-use Rattle.judge.specs.declared.scan.Seen.{Seen}
-use Rattle.judge.proofs.Pass.{Gap, Turned, over-gap, quiet-end}
-use Rattle.judge.proofs.Standing.{scan-holds}
+use Rattle.standing.specs.Scan.{holding}
+use Rattle.standing.specs.declared.Seen.{Seen}
+use Rattle.standing.proofs.Pass.{Gap, Turned, over-gap, quiet-end}
+use Rattle.standing.proofs.Tells.{scan-holds}
 use Rattle.pass.specs.Pass.{begun}
 use Rattle.pass.specs.declared.Pass.{Pass}
 use Rattle.pass.proofs.Turn.{placeOf, Stands, Turns, begins}

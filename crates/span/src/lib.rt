@@ -7,7 +7,6 @@ ghost use lib.ListN.{length};
 ghost use Rattle.judge.specs.Judge.{StripsAccepted};
 ghost use Rattle.span.specs.Answer.{spansIn, spansAnswer, listAfter};
 ghost use Rattle.span.specs.Steps.{most, pairAt, pairsFrom, ended, endedList, turned, turnedList};
-use judge::scan;
 
 // A refusal's number with its place, 0 where it has none, and count 0; or 0 and 0 with how many spans there are.
 #[repr(C)]
@@ -83,7 +82,7 @@ fn pairs(m: &[u32], s: &[u32], now: u32, list: &mut [u32]) -> usize
         pass = pass::advance(m, s, pass);
         let seen = pass.seen;
         let standing = seen.standing;
-        spanning = turn(&mut *list, spanning, pass.tick, scan::holds(standing));
+        spanning = turn(&mut *list, spanning, pass.tick, standing::holds(standing));
     }
     let last = end(list, spanning, now);
     last.count

@@ -5,11 +5,11 @@ use Rattle.formula.specs.declared.Verdict.the-variants.{Refused}
 use Rattle.strip.specs.History.{historyOf}
 use Rattle.strip.proofs.Places.{good-rising, good-upto}
 use Rattle.judge.specs.declared.check.Checked.{Checked}
-use Rattle.judge.specs.declared.scan.Seen.{Seen}
+use Rattle.standing.specs.declared.Seen.{Seen}
 use Rattle.judge.specs.Judge.{StripsAccepted}
-use Rattle.judge.specs.Scan.{toldBy}
+use Rattle.standing.specs.Scan.{toldBy}
 use Rattle.judge.proofs.Checked.{checks, check-accepts, check-refuses, judges}
-use Rattle.judge.proofs.Standing.{scan-tells}
+use Rattle.standing.proofs.Tells.{scan-tells}
 use borrow.Author.Needs.{needs}
 use Rattle.judge.proofs.judge.Statement.{statement}
 use Rattle.judge.proofs.judge.Tie as tie

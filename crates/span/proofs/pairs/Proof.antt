@@ -5,7 +5,7 @@ use Prim.Native.Nat.{ℕ, _+_, _-_, _<_, _≤_}
 use native.Mathlib.Omega.{arith}
 use lib.ListN.{length}
 use Rattle.strip.proofs.Places.{tickAt, good-rising, good-upto}
-use Rattle.judge.specs.Scan.{never}
+use Rattle.standing.specs.Scan.{never}
 use Rattle.pass.specs.declared.Pass.{Pass}
 use Rattle.pass.proofs.Turn.{Turns, turns}
 use Rattle.span.specs.Steps.{most, turned, turnedList}

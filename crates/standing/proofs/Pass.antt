@@ -14,9 +14,9 @@ use Rattle.event.specs.Word.{kindOf}
 use Rattle.formula.specs.Formula.{History}
 use Rattle.strip.specs.History.{historyOf}
 use Rattle.strip.proofs.Places.{tickAt, Rising, UpTo, After, after-start, quiet-till, history-here, after-hit, after-miss}
-use Rattle.judge.specs.declared.scan.Seen.{Seen}
-use Rattle.judge.specs.declared.scan.Head.{Head}
-use Rattle.judge.specs.Scan.{start, stepOf, scanTo, never, headOf}
+use Rattle.standing.specs.declared.Seen.{Seen}
+use Rattle.standing.specs.declared.Head.{Head}
+use Rattle.standing.specs.Scan.{start, stepOf, scanTo, never, headOf}
 
 -- ---- the scan over ticks
 module _ (model sheet : History) where

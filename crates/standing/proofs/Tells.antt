@@ -14,9 +14,9 @@ use Rattle.formula.specs.Formula.{History}
 use Rattle.formula.specs.Ticks.{inside, liberal, byAdd, byJoin, strict, grant}
 use Rattle.formula.specs.Verdict.{latest, earliest, grantedAt, denied, verdict}
 use Rattle.formula.proofs.Move.{inside-start, inside-moves, liberal-start, liberal-moves, grant-start, grant-moves}
-use Rattle.judge.specs.declared.scan.Standing.{Standing}
-use Rattle.judge.specs.declared.scan.Standing.the-variants.{Never, ByAdd, ByJoin, Left, Removed}
-use Rattle.judge.specs.Scan.{standsAfter, scanTo, toldBy, holding}
+use Rattle.standing.specs.declared.Standing.{Standing}
+use Rattle.standing.specs.declared.Standing.the-variants.{Never, ByAdd, ByJoin, Left, Removed}
+use Rattle.standing.specs.Scan.{standsAfter, scanTo, toldBy, holding}
 
 module _ (model sheet : History) where
   -- ---- membership and the liberal stay

@@ -1,4 +1,4 @@
--- The judge's pass, tick by tick: what the code follows. proofs/Standing.antt shows that it tells the verdict of the formula.
+-- The judge's pass, tick by tick: what the code follows. proofs/Tells.antt shows that it tells the verdict of the formula.
 use Prim.Native.Nat.{ℕ, zero, suc}
 use mathlib.Core.Bool.{Bool, true, false, cond, not, _&&_, _||_}
 use mathlib.Core.List.{List}
@@ -11,10 +11,10 @@ use Rattle.formula.specs.declared.Verdict.{Verdict}
 use Rattle.formula.specs.declared.Verdict.the-variants.{Granted, Denied}
 use Rattle.formula.specs.declared.Moment.the-variants.{Add, Join}
 use Rattle.formula.specs.declared.Cause.the-variants.{None, StrictLeave, StrictRemove}
-use Rattle.judge.specs.declared.scan.Standing.{Standing}
-use Rattle.judge.specs.declared.scan.Standing.the-variants.{Never, ByAdd, ByJoin, Left, Removed}
-use Rattle.judge.specs.declared.scan.Seen.{Seen}
-use Rattle.judge.specs.declared.scan.Head.{Head}
+use Rattle.standing.specs.declared.Standing.{Standing}
+use Rattle.standing.specs.declared.Standing.the-variants.{Never, ByAdd, ByJoin, Left, Removed}
+use Rattle.standing.specs.declared.Seen.{Seen}
+use Rattle.standing.specs.declared.Head.{Head}
 
 -- a strict event ends a grant and nothing else
 abbrev pub endedBy : Standing → Standing → Standing

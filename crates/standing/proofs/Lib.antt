@@ -1,0 +1,3 @@
+-- Laws of how a pair stands.
+pub mod Pass
+pub mod Tells
