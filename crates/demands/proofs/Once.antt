@@ -33,12 +33,12 @@ use Rattle.group.specs.Count.{countAnswer}
 use Rattle.group.specs.Fresh.{freshAnswer}
 use Rattle.group.specs.Read.{Reads, readAnswer}
 use Rattle.group.specs.Request.{requestAnswer}
-use Rattle.group.specs.Settled.{settledBy}
+use Rattle.close.specs.Settled.{settledBy}
 use Rattle.group.specs.declared.Answer.{Answer}
 use Rattle.group.specs.declared.CountAnswer.{CountAnswer}
 use Rattle.group.specs.declared.Group.{Group}
 use Rattle.group.specs.declared.ReadAnswer.{ReadAnswer}
-use Rattle.group.specs.declared.Settled.{Settled}
+use Rattle.close.specs.declared.Settled.{Settled}
 use Rattle.judge.specs.Checked as check
 use Rattle.judge.specs.Evidence.{evidenceOf, startOf}
 use Rattle.judge.specs.Judge.{checked, judgedBy, Judges}
@@ -74,11 +74,11 @@ pub record PromisesDetermine : Type 0 where
   -- the group
   -- Group::fresh, ferrulebee_fresh
   pub fresh : (number : ℕ) → Once Answer (λ r. r ≡ freshAnswer number)
-  -- Group::request, ferrulebee_request
+  -- request::request, ferrulebee_request
   pub request : (g : Group) (kind n : ℕ) → Once Answer (λ r. r ≡ requestAnswer g kind n)
-  -- group::request_at, ferrulebee_request_at
+  -- request::request_at, ferrulebee_request_at
   pub request-at : (g : Group) (kind n : ℕ) → Once (ℕ × Group) (λ r. (r .0 ≡ requestAnswer g kind n .code) × (r .1 ≡ requestAnswer g kind n .group))
-  -- Group::close, ferrulebee_close
+  -- close::close, ferrulebee_close
   pub close : (g : Group) → Once Answer (λ r. r ≡ closeAnswer g)
   -- Group::read
   pub read : (g : Group) (m s : ℕ) → Once ReadAnswer (Reads g m s)
@@ -154,12 +154,12 @@ pub record PromisesDetermine : Type 0 where
   pub set-either : (xs ys : List ℕ) → Once (List ℕ) (λ r. r ≡ either 4 xs ys)
   -- bits::set_after
   pub set-after : (was gone come : List ℕ) → Once (List ℕ) (λ r. r ≡ after 4 was gone come)
-  -- group::carriers_of
+  -- request::carriers_of
   pub carriers-of : (kind : ℕ) → Once ℕ (λ r. r ≡ carriers kind)
-  -- group::is_entering
+  -- request::is_entering
   pub is-entering : (kind : ℕ) → Once Bool (λ r. r ≡ entering kind)
-  -- Group::settled
-  pub settled : (g : Group) → Once Settled (λ r. r ≡ settledBy g)
+  -- close::settle
+  pub settle : (g : Group) → Once Settled (λ r. r ≡ settledBy g)
   -- tick::is_rising
   pub is-rising : (ws : List ℕ) → Once Bool (λ r. r ≡ rising ws)
   -- tick::place_from
@@ -263,7 +263,7 @@ promises-determine = record {
   set-after = λ was gone come. one (after 4 was gone come);
   carriers-of = λ kind. one (carriers kind);
   is-entering = λ kind. one (entering kind);
-  settled = λ g. one (settledBy g);
+  settle = λ g. one (settledBy g);
   is-rising = λ ws. one (rising ws);
   place-from = λ ws t r u p q. p .0 ∙ sym (q .0);
   begin = λ m s. one (begun m s);

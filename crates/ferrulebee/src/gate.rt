@@ -47,14 +47,14 @@ pub extern "C" fn ferrulebee_fresh(number: u32) -> Answer
 pub extern "C" fn ferrulebee_request(group: Group, kind: u32, number: u32) -> Answer
     ensures { λ r. ⌜ r ≡ requestAnswer group kind number ⌝ }
 {
-    group.request(kind, number)
+    request::request(group, kind, number)
 }
 
 #[no_mangle]
 pub extern "C" fn ferrulebee_close(group: Group) -> Answer
     ensures { λ r. ⌜ r ≡ closeAnswer group ⌝ }
 {
-    group.close()
+    close::close(group)
 }
 
 #[no_mangle]
@@ -76,7 +76,7 @@ pub extern "C" fn ferrulebee_models(group: Group, sheet: u32) -> CountAnswer
 pub extern "C" fn ferrulebee_request_at(g: &mut Group, kind: u32, number: u32) -> u32
     ensures { λ r. ⌜ (r ≡ requestAnswer (now (g .entry)) kind number .code) × (now (g .exit) ≡ requestAnswer (now (g .entry)) kind number .group) ⌝ }
 {
-    let asked = (*g).request(kind, number);
+    let asked = request::request(*g, kind, number);
     *g = asked.group;
     asked.code
 }

@@ -7,7 +7,6 @@ pub mod Close
 pub mod Fits
 pub mod Fresh
 pub mod Held
-pub mod Lent
 pub mod Quiet
 pub mod Request
 pub mod View

@@ -7,5 +7,4 @@ pub mod Fresh
 pub mod Marks
 pub mod Read
 pub mod Request
-pub mod Settled
 pub mod View

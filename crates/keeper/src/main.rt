@@ -78,7 +78,7 @@ fn hear(c: Console, buffer: &mut [u8], out: &[u8]) -> Heard {
 }
 
 fn request(group: Group, asked: Asked) -> Answer {
-    group.request(asked.a, asked.b)
+    request::request(group, asked.a, asked.b)
 }
 
 // The console after a request that was answered with a code, in the tick behind the closed ones.
@@ -101,7 +101,7 @@ fn requested(
 }
 
 fn close(group: Group) -> Answer {
-    group.close()
+    close::close(group)
 }
 
 // The console after a close that was answered with a code, and so many ticks are closed then.
