@@ -4,6 +4,7 @@
  *
  *     guards [--bare]     --bare lends blocks without guards, so that a memory checker sees any step over */
 #include "ferrulebee.h"
+#include "words.h"
 
 #include <inttypes.h>
 #include <stdio.h>
@@ -210,12 +211,6 @@ static void masks(void)
 }
 
 /* ---- the judge and the evidence ---- */
-
-static void put(uint8_t *at, uint32_t word)
-{
-    for (int i = 0; i < 4; i++)
-        at[i] = (uint8_t)(word >> (8 * i));
-}
 
 static void judged(const char *what, size_t model_bytes, uint32_t model_kind, size_t sheet_bytes, uint32_t sheet_kind, uint32_t now, uint32_t expected)
 {

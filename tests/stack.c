@@ -5,6 +5,7 @@
  *     stack [--table]     --table prints the bytes of each call */
 #define _XOPEN_SOURCE 700
 #include "ferrulebee.h"
+#include "words.h"
 
 #include <stdio.h>
 #include <stdlib.h>
@@ -64,12 +65,6 @@ static const struct {
     {"ferrulebee_evidence", call_evidence, 1024},
     {"ferrulebee_spans", call_spans, 1024},
 };
-
-static void put(uint8_t *at, uint32_t word)
-{
-    for (int i = 0; i < 4; i++)
-        at[i] = (uint8_t)(word >> (8 * i));
-}
 
 static void fill(void)
 {
