@@ -56,8 +56,8 @@ use Rattle.span.specs.Answer.{spansAnswer, listAfter}
 use Rattle.span.specs.declared.SpansAnswer.{SpansAnswer}
 use Rattle.station.specs.Mask.{maskAnswer}
 use Rattle.station.specs.declared.MaskAnswer.{MaskAnswer}
-use Rattle.store.specs.Answer.{answer, Delivers, bufferAfter}
-use Rattle.store.specs.declared.Delivery.{Delivery}
+use Rattle.delivery.specs.Answer.{answer, Delivers, bufferAfter}
+use Rattle.delivery.specs.declared.Delivery.{Delivery}
 use Rattle.strip.specs.declared.Side.{Side}
 use Rattle.strip.specs.Good.{firstBad}
 use Rattle.text.specs.Text.{added, addedEnd, AddsDecimal}

@@ -1,7 +1,7 @@
 // The delivery for C: its three numbers, beside the buffer that it is written to.
 ghost use mathlib.Core.Path.{_≡_};
 ghost use lib.ListN.{length};
-ghost use Rattle.store.specs.Answer.{answer, bufferAfter};
+ghost use Rattle.delivery.specs.Answer.{answer, bufferAfter};
 ghost use Rattle.ferrulebee.specs.Delivered.{deliveryNumbers};
 use group::Group;
 use store::Delivery;
