@@ -8,12 +8,12 @@ use lib.Dec.{leb, ltb}
 use lib.ListN.{length}
 use Rattle.rules.specs.Ranges.{models, sheets}
 use Rattle.rules.specs.Refusals.{badNumber, badStore, deliveryTooLong}
-use Rattle.delivery.specs.declared.Delivery.{Delivery}
-use Rattle.delivery.specs.declared.Delivery.the-variants.{Delivered, Refused}
 use Rattle.store.specs.Store.{goodStore}
 use Rattle.store.specs.Entry.{entryFault}
 use Rattle.parts.specs.Fault.{firstFaulty}
 use Rattle.parts.specs.Delivery.{grantedSheets, deliveryLength, deliveryOf}
+use Rattle.delivery.specs.declared.Delivery.{Delivery}
+use Rattle.delivery.specs.declared.Delivery.the-variants.{Delivered, Refused}
 use Rattle.delivery.specs.Answer.{decided, answer, deliveryNumber, deliveryPlace, deliveredLength, Delivers, written, bufferAfter}
 
 -- what is made of an answer is made of each of its cases

@@ -7,12 +7,12 @@ use lib.Dec.{leb, ltb}
 use lib.ListN.{length, drop}
 use Rattle.rules.specs.Ranges.{models, sheets}
 use Rattle.rules.specs.Refusals.{badNumber, badStore, deliveryTooLong}
-use Rattle.delivery.specs.declared.Delivery.{Delivery}
-use Rattle.delivery.specs.declared.Delivery.the-variants.{Delivered, Refused}
 use Rattle.store.specs.Store.{goodStore}
 use Rattle.store.specs.Entry.{entryFault}
 use Rattle.parts.specs.Fault.{firstFaulty}
 use Rattle.parts.specs.Delivery.{grantedSheets, deliveryLength, deliveryOf}
+use Rattle.delivery.specs.declared.Delivery.{Delivery}
+use Rattle.delivery.specs.declared.Delivery.the-variants.{Delivered, Refused}
 
 -- "delivery 2, 31, then granted sheets by rising number 32, 33, then 34. 32 and 33 name the sheet"; the others have no place, which is 0. By what is
 -- made of a refusal and its place, and else of the total length

@@ -14,9 +14,9 @@ use Rattle.bits.specs.Granted.{granted}
 use Rattle.group.specs.Fits.{Fits}
 use Rattle.group.specs.View.{view}
 use Rattle.group.specs.declared.Group.{Group}
+use Rattle.parts.specs.Delivery.{deliveryOf, grantedSheets}
 use Rattle.delivery.specs.Agree.{Agree}
 use Rattle.delivery.specs.Answer.{written}
-use Rattle.parts.specs.Delivery.{deliveryOf, grantedSheets}
 use Rattle.delivery.specs.declared.Delivery.{Delivery}
 use Rattle.delivery.specs.declared.Delivery.the-variants.{Refused}
 use Rattle.delivery.proofs.Answer.{answer-number}

@@ -106,7 +106,7 @@ pub record PromisesDetermine : Type 0 where
   pub spans : (m s : List ℕ) (now : ℕ) (list : List ℕ)
       → Once (SpansAnswer × List ℕ) (λ r. (r .0 ≡ spansAnswer m s now (length list)) × (r .1 ≡ listAfter m s now list))
   -- a delivery, with its buffer: by grants, and by a group's
-  -- store::deliver
+  -- delivery::granted::deliver
   pub delivery : (grants : List ℕ) (m : ℕ) (store out : List ℕ)
       → Once (Delivery × List ℕ) (λ r. Delivers grants m store (length out) (r .0) × (r .1 ≡ bufferAfter grants m store out))
   -- delivery::deliver

@@ -10,8 +10,8 @@ use lib.Dec.{eqb}
 use Rattle.base.proofs.First.{first-before, first-there}
 use Rattle.base.proofs.Truth.{either, both}
 use Rattle.rules.specs.Ranges.{sheets}
-use Rattle.store.specs.Entry.{entryFault}
 use Rattle.bits.specs.Granted.{granted}
+use Rattle.store.specs.Entry.{entryFault}
 use Rattle.parts.specs.Fault.{faulty, firstFaulty}
 
 module _ (grants : List ℕ) (m : ℕ) (b : List ℕ) (s : ℕ) where

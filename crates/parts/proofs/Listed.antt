@@ -12,14 +12,14 @@ use lib.Seq.{getD-append-seam}
 use Rattle.base.proofs.Truth.{either}
 use Rattle.rules.specs.Ranges.{sheets}
 use Rattle.wire.specs.Word.{le32, bytes32}
-use Rattle.store.specs.Entry.{offset, sheetLength}
 use Rattle.bits.specs.Granted.{granted}
+use Rattle.store.specs.Entry.{offset, sheetLength}
+use Rattle.store.proofs.Store.{good}
+use Rattle.store.proofs.Entry.{sound}
 use Rattle.parts.specs.Granted.{grantedBelow}
 use Rattle.parts.specs.Delivery.{part, parts, deliveryLength, deliveryOf, grantedSheets}
 use Rattle.parts.specs.Ready.{Ready}
 use Rattle.parts.specs.Listed.{numbers, listed, Exactly}
-use Rattle.store.proofs.Store.{good}
-use Rattle.store.proofs.Entry.{sound}
 use Rattle.parts.proofs.Fault.{fault-free}
 use Rattle.parts.proofs.Head.{read-first, read-second, drop-head}
 use Rattle.parts.proofs.Granted.{below-in, below-out}

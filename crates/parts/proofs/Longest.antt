@@ -9,10 +9,10 @@ use native.Mathlib.Omega.{arith}
 use Rattle.base.proofs.Truth.{either}
 use Rattle.rules.specs.Ranges.{sheets, storeBytes}
 use Rattle.bits.specs.Granted.{granted}
+use Rattle.store.proofs.Store.{good}
 use Rattle.parts.specs.Granted.{grantedBelow}
 use Rattle.parts.specs.Delivery.{deliveryLength, grantedSheets}
 use Rattle.parts.specs.Ready.{Ready}
-use Rattle.store.proofs.Store.{good}
 use Rattle.parts.proofs.Fault.{fault-free}
 use Rattle.parts.proofs.Sums.{Sums, sums-none, sums-out, sums-in}
 

@@ -12,8 +12,8 @@ use lib.Seq.{length-take-le, take-at, drop-at}
 use Rattle.base.proofs.Truth.{either}
 use Rattle.wire.specs.Word.{le32, bytes32}
 use Rattle.wire.proofs.Word.{length-bytes32}
-use Rattle.store.specs.Entry.{offset, sheetLength}
 use Rattle.bits.specs.Granted.{granted}
+use Rattle.store.specs.Entry.{offset, sheetLength}
 use Rattle.parts.specs.Granted.{grantedBelow}
 use Rattle.parts.specs.Delivery.{sheetBytes, part, parts}
 use Rattle.parts.proofs.Granted.{below-in, below-out}

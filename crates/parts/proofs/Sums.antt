@@ -8,13 +8,13 @@ use borrow.Author.Count.{below-more}
 use lib.ListN.{length, length-append}
 use Rattle.base.proofs.First.{None, first-none, first-is}
 use Rattle.rules.specs.Ranges.{sheets, storeBytes}
-use Rattle.store.specs.Entry.{sheetLength, entryFault}
 use Rattle.bits.specs.Granted.{granted}
+use Rattle.store.specs.Entry.{sheetLength, entryFault}
+use Rattle.store.proofs.Store.{Good}
+use Rattle.store.proofs.Entry.{sound}
 use Rattle.parts.specs.Granted.{grantedBelow}
 use Rattle.parts.specs.Fault.{faulty, firstFaulty}
 use Rattle.parts.specs.Delivery.{part, parts, deliveryLength}
-use Rattle.store.proofs.Store.{Good}
-use Rattle.store.proofs.Entry.{sound}
 use Rattle.parts.proofs.Fault.{faulty-ungranted, faulty-not, faulty-so}
 use Rattle.parts.proofs.Granted.{below-in, below-out}
 use Rattle.parts.proofs.Parts.{length-part, parts-in, parts-out}

@@ -5,8 +5,8 @@ use mathlib.Core.List.{List}
 use lib.Dec.{eqb}
 use Rattle.base.specs.First.{first}
 use Rattle.rules.specs.Ranges.{sheets}
-use Rattle.store.specs.Entry.{entryFault}
 use Rattle.bits.specs.Granted.{granted}
+use Rattle.store.specs.Entry.{entryFault}
 
 -- sheet s is granted, and its entry has a fault
 unfoldable pub faulty : List ℕ → ℕ → List ℕ → ℕ → Bool

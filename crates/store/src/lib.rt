@@ -21,7 +21,7 @@ pub fn good_store(store: &[u8]) -> bool
         & (8 + 8 * (n as usize) <= total)
 }
 
-pub fn sheet_count(store: &[u8]) -> u32
+fn sheet_count(store: &[u8]) -> u32
     requires { ⌜ 8 ≤ length (now store) ⌝ }
     ensures { λ r. ⌜ r ≡ sheetCount (now (store .entry)) ⌝ }
 {

@@ -1,6 +1,6 @@
 // One line for a delivery.
+use delivery::Delivery;
 use libc::STDOUT_FILENO;
-use store::Delivery;
 
 // The delivery from the first `len` bytes of a store into a buffer of `room` bytes, at most 64.
 pub fn delivery(
@@ -23,7 +23,7 @@ pub fn delivery(
 
 fn line(name: &[u8], grants: &[u64; 256], model: u32, store: &[u8], out: &mut [u8]) {
     io::write_all(STDOUT_FILENO, name);
-    answer(store::deliver(grants, model, store, &mut *out));
+    answer(delivery::granted::deliver(grants, model, store, &mut *out));
     bytes(out);
     io::write_all(STDOUT_FILENO, b"\n");
 }

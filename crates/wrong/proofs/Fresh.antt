@@ -11,11 +11,11 @@ use Rattle.wire.specs.Word.{le32, bytes32}
 use Rattle.bits.specs.Granted.{granted}
 use Rattle.group.specs.Fresh.{freshGroup}
 use Rattle.group.proofs.Fresh.{fresh-granted}
-use Rattle.delivery.specs.Answer.{answer, written, bufferAfter}
+use Rattle.store.specs.Store.{goodStore}
 use Rattle.parts.specs.Delivery.{parts, deliveryLength, deliveryOf, grantedSheets}
 use Rattle.parts.specs.Fault.{faulty, firstFaulty}
 use Rattle.parts.specs.Granted.{grantedBelow}
-use Rattle.store.specs.Store.{goodStore}
+use Rattle.delivery.specs.Answer.{answer, written, bufferAfter}
 use Rattle.delivery.specs.declared.Delivery.{Delivery}
 use Rattle.delivery.specs.declared.Delivery.the-variants.{Delivered}
 use Rattle.delivery.proofs.Answer.{answer-delivered}

@@ -7,8 +7,8 @@ use native.Mathlib.Omega.{arith}
 use borrow.Author.Needs.{needs}
 use borrow.Author.Tests.{not-true, not-false}
 use lib.ListN.{length}
-use Rattle.store.specs.Entry.{offset, sheetLength}
 use Rattle.bits.specs.Granted.{granted}
+use Rattle.store.specs.Entry.{offset, sheetLength}
 use Rattle.store.proofs.Store.{good}
 use Rattle.store.proofs.Entry.{sound}
 use Rattle.parts.proofs.Fault.{fault-free}

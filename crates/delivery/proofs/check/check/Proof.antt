@@ -7,14 +7,14 @@ use Prim.Native.Nat.{ℕ, _-_, _≤_}
 use native.Mathlib.Omega.{arith}
 use borrow.Author.Needs.{needs}
 use borrow.Author.Tests.{not-true, not-false}
-use Rattle.delivery.specs.declared.check.Checked.{Checked}
-use Rattle.store.specs.Entry.{entryFault}
 use Rattle.bits.specs.Granted.{granted}
-use Rattle.parts.specs.Fault.{firstFaulty}
-use Rattle.delivery.specs.Checked.{checkedTo, checked}
+use Rattle.store.specs.Entry.{entryFault}
 use Rattle.store.proofs.Store.{Good, good}
 use Rattle.store.proofs.Entry.{sound}
+use Rattle.parts.specs.Fault.{firstFaulty}
 use Rattle.parts.proofs.Sums.{Sums, sums-none, sums-out, sums-in, sums-stop, sums-end}
+use Rattle.delivery.specs.declared.check.Checked.{Checked}
+use Rattle.delivery.specs.Checked.{checkedTo, checked}
 use Rattle.delivery.proofs.check.check.Statement.{statement}
 use Rattle.delivery.proofs.check.check.Tie as tie
 

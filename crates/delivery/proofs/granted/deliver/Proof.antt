@@ -6,15 +6,15 @@ use Prim.Native.Nat.{ℕ, _≤_, _<_}
 use native.Mathlib.Omega.{arith}
 use lib.ListN.{length}
 use borrow.Author.Tests.{not-true, not-false}
-use Rattle.delivery.specs.declared.check.Checked.{Checked}
-use Rattle.delivery.specs.declared.Delivery.the-variants.{Delivered, Refused}
-use Rattle.store.specs.Store.{goodStore}
-use Rattle.store.specs.Entry.{entryFault}
 use Rattle.base.proofs.First.{first-le}
 use Rattle.rules.specs.Ranges.{sheets}
+use Rattle.store.specs.Store.{goodStore}
+use Rattle.store.specs.Entry.{entryFault}
 use Rattle.parts.specs.Granted.{grantedBelow}
 use Rattle.parts.specs.Fault.{faulty, firstFaulty}
 use Rattle.parts.specs.Delivery.{grantedSheets, deliveryLength}
+use Rattle.delivery.specs.declared.check.Checked.{Checked}
+use Rattle.delivery.specs.declared.Delivery.the-variants.{Delivered, Refused}
 use Rattle.delivery.specs.Checked.{checked}
 use Rattle.delivery.proofs.Answer.{promised, answer-number, answer-store, answer-sheet, answer-long, answer-delivered}
 use borrow.Author.Needs.{needs}
