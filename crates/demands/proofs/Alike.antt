@@ -14,12 +14,12 @@ use Rattle.bits.specs.Granted.{granted}
 use Rattle.group.specs.Fits.{Fits}
 use Rattle.group.specs.View.{view}
 use Rattle.group.specs.declared.Group.{Group}
-use Rattle.store.specs.Agree.{Agree}
-use Rattle.store.specs.Answer.{written}
-use Rattle.store.specs.Delivery.{deliveryOf, grantedSheets}
-use Rattle.store.specs.declared.Delivery.{Delivery}
-use Rattle.store.specs.declared.Delivery.the-variants.{Refused}
-use Rattle.store.proofs.Answer.{answer-number}
+use Rattle.parts.specs.Delivery.{deliveryOf, grantedSheets}
+use Rattle.delivery.specs.Agree.{Agree}
+use Rattle.delivery.specs.Answer.{written}
+use Rattle.delivery.specs.declared.Delivery.{Delivery}
+use Rattle.delivery.specs.declared.Delivery.the-variants.{Refused}
+use Rattle.delivery.proofs.Answer.{answer-number}
 use Rattle.history.proofs.Answers.{read-granted}
 use Rattle.demands.specs.Calls.{Call, deliver, delivered, answerTo, Run, startFresh, next, reach}
 use Rattle.demands.specs.Alike.{shared, answersOf, Agreeing, Alike, done, both, stores, left, right}

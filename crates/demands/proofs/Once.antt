@@ -15,6 +15,9 @@ use Rattle.tick.specs.Tick.{tickPart, tickStart, rising, placeFrom}
 use Rattle.book.specs.Write.{bookWritten, bufferWritten}
 use Rattle.book.specs.declared.BookRead.{BookRead}
 use Rattle.book.specs.declared.BookWritten.{BookWritten}
+use Rattle.delivery.specs.Answer.{answer, Delivers, bufferAfter}
+use Rattle.delivery.specs.declared.Delivery.{Delivery}
+use Rattle.delivery.proofs.Once.{once}
 use Rattle.event.specs.Word.{tickOf, kindOf, numberOf}
 use Rattle.format.specs.Header.{headerRefusal, roomRefusal}
 use Rattle.formula.specs.Answer.{verdictNumber, verdictValue}
@@ -56,8 +59,7 @@ use Rattle.span.specs.Answer.{spansAnswer, listAfter}
 use Rattle.span.specs.declared.SpansAnswer.{SpansAnswer}
 use Rattle.station.specs.Mask.{maskAnswer}
 use Rattle.station.specs.declared.MaskAnswer.{MaskAnswer}
-use Rattle.store.specs.Answer.{answer, Delivers, bufferAfter}
-use Rattle.store.specs.declared.Delivery.{Delivery}
+use Rattle.store.specs.Store.{goodStore}
 use Rattle.strip.specs.declared.Side.{Side}
 use Rattle.strip.specs.Good.{firstBad}
 use Rattle.text.specs.Text.{added, addedEnd, AddsDecimal}
@@ -105,8 +107,10 @@ pub record PromisesDetermine : Type 0 where
   -- span::spans, ferrulebee_spans
   pub spans : (m s : List ℕ) (now : ℕ) (list : List ℕ)
       → Once (SpansAnswer × List ℕ) (λ r. (r .0 ≡ spansAnswer m s now (length list)) × (r .1 ≡ listAfter m s now list))
-  -- a delivery, with its buffer: by grants, and by a group's
-  -- store::deliver
+  -- when a store is taken; a delivery, with its buffer: by grants, and by a group's
+  -- store::good_store
+  pub good-store : (b : List ℕ) → Once Bool (λ r. r ≡ goodStore b)
+  -- delivery::granted::deliver
   pub delivery : (grants : List ℕ) (m : ℕ) (store out : List ℕ)
       → Once (Delivery × List ℕ) (λ r. Delivers grants m store (length out) (r .0) × (r .1 ≡ bufferAfter grants m store out))
   -- delivery::deliver
@@ -224,7 +228,7 @@ module _ {A B : Type 0} where
 
 once-delivered : (grants : List ℕ) (m : ℕ) (store out : List ℕ)
     → Once (Delivery × List ℕ) (λ r. Delivers grants m store (length out) (r .0) × (r .1 ≡ bufferAfter grants m store out))
-once-delivered grants m store out r t p q = λ i. ((p .0 .answer ∙ sym (q .0 .answer)) i, (p .1 ∙ sym (q .1)) i)
+once-delivered grants m store out r t p q = let e = once grants m store out (r .0) (t .0) (r .1) (t .1) p q in λ i. (e .0 i, e .1 i)
 
 pub promises-determine : PromisesDetermine
 promises-determine = record {
@@ -242,6 +246,7 @@ promises-determine = record {
   evidence = λ m s now. two (evidenceOf (judgedBy (m .now) (s .now) now) (m .now) (s .now)) (startOf (judgedBy (m .now) (s .now) now) m s);
   check = λ m s now. one (checked m s now check.refused check.accepted);
   spans = λ m s now list. two (spansAnswer m s now (length list)) (listAfter m s now list);
+  good-store = λ b. one (goodStore b);
   delivery = once-delivered;
   group-delivery = λ g. once-delivered (g .grants);
   reader = λ b list. two (bookRead b (length list)) (listRead b list);

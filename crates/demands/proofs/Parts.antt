@@ -14,18 +14,18 @@ use Rattle.rules.specs.Ranges.{models, sheets}
 use Rattle.rules.specs.Refusals.{badNumber, badStore, deliveryTooLong}
 use Rattle.wire.specs.Word.{bytes32}
 use Rattle.wire.proofs.Word.{length-bytes32}
-use Rattle.store.specs.Answer.{answer, written, bufferAfter}
-use Rattle.store.specs.Delivery.{sheetBytes, part, parts, deliveryLength, deliveryOf, grantedSheets}
-use Rattle.store.specs.Entry.{offset, sheetLength}
-use Rattle.store.specs.Fault.{faulty, firstFaulty}
 use Rattle.bits.specs.Granted.{granted}
-use Rattle.store.specs.Listed.{listed, Exactly}
-use Rattle.store.specs.Ready.{Ready}
+use Rattle.store.specs.Entry.{offset, sheetLength}
 use Rattle.store.specs.Store.{goodStore}
-use Rattle.store.specs.declared.Delivery.{Delivery}
-use Rattle.store.specs.declared.Delivery.the-variants.{Delivered, Refused}
-use Rattle.store.proofs.Listed.{behind, inside, delivery-count, delivery-total, delivery-lists, delivered-exactly}
-use Rattle.store.proofs.Parts.{length-sheet, part-number, part-bytes, part-next}
+use Rattle.parts.specs.Delivery.{sheetBytes, part, parts, deliveryLength, deliveryOf, grantedSheets}
+use Rattle.parts.specs.Fault.{faulty, firstFaulty}
+use Rattle.parts.specs.Listed.{listed, Exactly}
+use Rattle.parts.specs.Ready.{Ready}
+use Rattle.parts.proofs.Listed.{behind, inside, delivery-count, delivery-total, delivery-lists, delivered-exactly}
+use Rattle.parts.proofs.Parts.{length-sheet, part-number, part-bytes, part-next}
+use Rattle.delivery.specs.Answer.{answer, written, bufferAfter}
+use Rattle.delivery.specs.declared.Delivery.{Delivery}
+use Rattle.delivery.specs.declared.Delivery.the-variants.{Delivered, Refused}
 use Rattle.demands.specs.Delivered.{partsOf, partsIn, flatParts, stored, Holds}
 
 -- ---- what `Delivered` tells

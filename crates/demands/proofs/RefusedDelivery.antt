@@ -11,14 +11,14 @@ use Rattle.base.proofs.First.{first-there}
 use Rattle.base.proofs.Truth.{both}
 use Rattle.rules.specs.Ranges.{models, sheets}
 use Rattle.rules.specs.Refusals.{badNumber, badStore, notInStore, badEntry, deliveryTooLong}
-use Rattle.store.specs.Answer.{answer, written, bufferAfter}
-use Rattle.store.specs.Delivery.{grantedSheets, deliveryLength, deliveryOf}
-use Rattle.store.specs.Entry.{goodEntry, entryFault}
-use Rattle.store.specs.Fault.{faulty, firstFaulty}
 use Rattle.bits.specs.Granted.{granted}
+use Rattle.store.specs.Entry.{goodEntry, entryFault}
 use Rattle.store.specs.Store.{sheetCount, goodStore}
-use Rattle.store.specs.declared.Delivery.{Delivery}
-use Rattle.store.specs.declared.Delivery.the-variants.{Delivered, Refused}
+use Rattle.parts.specs.Delivery.{grantedSheets, deliveryLength, deliveryOf}
+use Rattle.parts.specs.Fault.{faulty, firstFaulty}
+use Rattle.delivery.specs.Answer.{answer, written, bufferAfter}
+use Rattle.delivery.specs.declared.Delivery.{Delivery}
+use Rattle.delivery.specs.declared.Delivery.the-variants.{Delivered, Refused}
 use Rattle.demands.specs.Lines.{Refusal, at, plain, none, Line, line, firstMet, Refuses}
 use Rattle.demands.specs.Refusals.{sheetLines, deliveryLines, refusedDelivery}
 use Rattle.demands.proofs.Lines.{any, first-each}

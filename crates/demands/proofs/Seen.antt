@@ -24,8 +24,8 @@ use Rattle.group.proofs.Accepted.{accepted}
 use Rattle.group.proofs.Fits.{request-fits, close-fits}
 use Rattle.group.proofs.Request.{request-refused}
 use Rattle.group.proofs.View.{other-model, view-refusal, view-request, view-close, view-close-code, view-read}
-use Rattle.store.specs.Agree.{Agree}
-use Rattle.store.proofs.Agree.{same-answer, same-buffer}
+use Rattle.delivery.specs.Agree.{Agree}
+use Rattle.delivery.proofs.Agree.{same-answer, same-buffer}
 use Rattle.demands.specs.Calls.{Call, request, close, read, count, deliver, coded, shown, delivered, answerTo, Run, next}
 use Rattle.demands.specs.Alike.{forSheet, shared}
 use Rattle.demands.specs.Ours.{ours}

@@ -7,9 +7,9 @@ use lib.Dec.{eqb}
 use lib.ListN.{length, take}
 use Rattle.rules.specs.Kinds.{isAdd, isRemove}
 use Rattle.rules.specs.Ranges.{sheets}
-use Rattle.store.specs.Delivery.{sheetBytes}
 use Rattle.store.specs.Entry.{offset, sheetLength, entryFault}
 use Rattle.store.specs.Store.{sheetCount}
+use Rattle.parts.specs.Delivery.{sheetBytes}
 use Rattle.demands.specs.Calls.{Call, request, close, read, count, deliver, Answer, answerTo, Run, next}
 use Rattle.demands.specs.Gate.{Gate}
 use Rattle.demands.specs.Gated.{Granting}

@@ -8,7 +8,7 @@ use Rattle.rules.specs.Ranges.{groups, ticks}
 use Rattle.event.specs.Word.{wordOf}
 use Rattle.group.specs.declared.CountAnswer.{CountAnswer}
 use Rattle.group.specs.declared.ReadAnswer.{ReadAnswer}
-use Rattle.store.specs.declared.Delivery.{Delivery}
+use Rattle.delivery.specs.declared.Delivery.{Delivery}
 use Rattle.book.specs.Read.{recordsIn}
 use Rattle.format.specs.Header.{ticksIn, numberIn}
 use Rattle.demands.specs.Gate.{Gate}

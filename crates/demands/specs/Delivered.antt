@@ -5,8 +5,8 @@ use Prim.Native.Nat.{ℕ, zero, suc, _+_, _<_}
 use lib.ListN.{length, getD, take, drop}
 use Rattle.rules.specs.Ranges.{sheets}
 use Rattle.wire.specs.Word.{le32, bytes32}
-use Rattle.store.specs.Delivery.{sheetBytes}
-use Rattle.store.specs.Listed.{listed}
+use Rattle.parts.specs.Delivery.{sheetBytes}
+use Rattle.parts.specs.Listed.{listed}
 
 -- "number, length, bytes"
 pub record Part : Type 0 where

@@ -16,7 +16,7 @@ use Rattle.loader.specs.Judge.{packed}
 use Rattle.group.specs.Fresh.{freshGroup}
 use Rattle.group.specs.Read.{readNumber, grantOf}
 use Rattle.group.specs.declared.Group.{Group}
-use Rattle.store.specs.declared.Delivery.the-variants.{Delivered}
+use Rattle.delivery.specs.declared.Delivery.the-variants.{Delivered}
 use Rattle.demands.specs.Gate.{Gate}
 use Rattle.demands.specs.Lines.{at, none, plain, Line, unmet, firstMet, Met, NoneMet, Refuses}
 use Rattle.demands.specs.Refusals.{freshLines, requestLines, closeLines, readLines, countLines, maskLines, judgeLines, bytesLines, spansLines, refusedVerdict, readerLines, writerLines, deliveryLines, refusedDelivery}

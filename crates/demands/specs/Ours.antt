@@ -15,7 +15,7 @@ use Rattle.judge.specs.Evidence.{evidenceOf}
 use Rattle.judge.specs.Judge.{judgedBy}
 use Rattle.span.specs.Answer.{spansAnswer, listAfter}
 use Rattle.station.specs.Mask.{maskAnswer}
-use Rattle.store.specs.Answer.{answer, bufferAfter}
+use Rattle.delivery.specs.Answer.{answer, bufferAfter}
 use Rattle.demands.specs.Gate.{Left, Gate}
 
 -- a fresh group, a request and a close name no place

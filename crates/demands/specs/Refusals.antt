@@ -20,12 +20,12 @@ use Rattle.span.specs.Answer.{spansIn}
 use Rattle.group.specs.Carrier.{carriers, entering}
 use Rattle.group.specs.Marks.{carrierMarked, carrierIn}
 use Rattle.group.specs.declared.Group.{Group}
-use Rattle.store.specs.Delivery.{grantedSheets, deliveryLength}
-use Rattle.store.specs.Entry.{goodEntry}
 use Rattle.bits.specs.Granted.{granted}
+use Rattle.store.specs.Entry.{goodEntry}
 use Rattle.store.specs.Store.{sheetCount, goodStore}
-use Rattle.store.specs.declared.Delivery.{Delivery}
-use Rattle.store.specs.declared.Delivery.the-variants as delivery
+use Rattle.parts.specs.Delivery.{grantedSheets, deliveryLength}
+use Rattle.delivery.specs.declared.Delivery.{Delivery}
+use Rattle.delivery.specs.declared.Delivery.the-variants as delivery
 use Rattle.format.specs.Header.{lengthOf, beyond, totalIn, ticksIn, countIn, offsetIn, numberIn}
 use Rattle.book.specs.Read.{recordsIn}
 use Rattle.book.specs.Records.{outside, carrierOf, lastOf, breaks}

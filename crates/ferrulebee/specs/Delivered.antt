@@ -1,6 +1,6 @@
 -- A delivery's answer from C.
-use Rattle.store.specs.declared.Delivery.{Delivery}
-use Rattle.store.specs.Answer.{deliveryNumber, deliveryPlace, deliveredLength}
+use Rattle.delivery.specs.declared.Delivery.{Delivery}
+use Rattle.delivery.specs.Answer.{deliveryNumber, deliveryPlace, deliveredLength}
 use Rattle.ferrulebee.specs.declared.deliver.Delivered as C
 
 -- "Its answer is that total length"; "32 and 33 name the sheet", a refusal without a place has 0

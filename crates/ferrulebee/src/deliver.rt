@@ -1,10 +1,10 @@
 // The delivery for C: its three numbers, beside the buffer that it is written to.
 ghost use mathlib.Core.Path.{_≡_};
 ghost use lib.ListN.{length};
-ghost use Rattle.store.specs.Answer.{answer, bufferAfter};
+ghost use Rattle.delivery.specs.Answer.{answer, bufferAfter};
 ghost use Rattle.ferrulebee.specs.Delivered.{deliveryNumbers};
+use delivery::Delivery;
 use group::Group;
-use store::Delivery;
 
 // A refusal's number with its place, the sheet for 32 and 33 and else 0; or 0 with the delivery's total length.
 #[repr(C)]

@@ -1,10 +1,2 @@
-pub mod Agree
-pub mod Answer
-pub mod Checked
-pub mod Delivery
 pub mod Entry
-pub mod Fault
-pub mod Granted
-pub mod Listed
-pub mod Ready
 pub mod Store

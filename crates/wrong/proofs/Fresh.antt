@@ -11,14 +11,14 @@ use Rattle.wire.specs.Word.{le32, bytes32}
 use Rattle.bits.specs.Granted.{granted}
 use Rattle.group.specs.Fresh.{freshGroup}
 use Rattle.group.proofs.Fresh.{fresh-granted}
-use Rattle.store.specs.Answer.{answer, written, bufferAfter}
-use Rattle.store.specs.Delivery.{parts, deliveryLength, deliveryOf, grantedSheets}
-use Rattle.store.specs.Fault.{faulty, firstFaulty}
-use Rattle.store.specs.Granted.{grantedBelow}
 use Rattle.store.specs.Store.{goodStore}
-use Rattle.store.specs.declared.Delivery.{Delivery}
-use Rattle.store.specs.declared.Delivery.the-variants.{Delivered}
-use Rattle.store.proofs.Answer.{answer-delivered}
+use Rattle.parts.specs.Delivery.{parts, deliveryLength, deliveryOf, grantedSheets}
+use Rattle.parts.specs.Fault.{faulty, firstFaulty}
+use Rattle.parts.specs.Granted.{grantedBelow}
+use Rattle.delivery.specs.Answer.{answer, written, bufferAfter}
+use Rattle.delivery.specs.declared.Delivery.{Delivery}
+use Rattle.delivery.specs.declared.Delivery.the-variants.{Delivered}
+use Rattle.delivery.proofs.Answer.{answer-delivered}
 
 abbrev pub nobody : List ℕ
 nobody = freshGroup 0 .grants

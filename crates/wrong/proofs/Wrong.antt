@@ -30,9 +30,9 @@ use Rattle.group.specs.Marks.{modelIn, sheetIn}
 use Rattle.group.specs.Request.{requestAnswer, requestRefusal, markedGroup}
 use Rattle.group.specs.declared.Group.{Group}
 use Rattle.group.specs.declared.ReadAnswer.the-variants.{Granted, Denied}
-use Rattle.store.specs.Answer.{bufferAfter}
-use Rattle.store.specs.declared.Delivery.{Delivery}
-use Rattle.store.specs.declared.Delivery.the-variants.{Delivered, Refused}
+use Rattle.delivery.specs.Answer.{bufferAfter}
+use Rattle.delivery.specs.declared.Delivery.{Delivery}
+use Rattle.delivery.specs.declared.Delivery.the-variants.{Delivered, Refused}
 use Rattle.wire.specs.Word.{le32, bytes32}
 use Rattle.group.proofs.Fresh.{fresh-granted}
 use Rattle.group.proofs.Request.{bit-marked, request-keeps}

@@ -18,8 +18,8 @@ use Rattle.group.specs.declared.Group.{Group}
 use Rattle.group.specs.declared.ReadAnswer.{ReadAnswer}
 use Rattle.group.specs.declared.ReadAnswer.the-variants.{Granted, Denied, Refused}
 use Rattle.station.specs.declared.MaskAnswer.{MaskAnswer}
-use Rattle.store.specs.declared.Delivery.{Delivery}
-use Rattle.store.specs.declared.Delivery.the-variants as delivery
+use Rattle.delivery.specs.declared.Delivery.{Delivery}
+use Rattle.delivery.specs.declared.Delivery.the-variants as delivery
 use Rattle.demands.specs.Gate.{Left, Gate}
 use Rattle.demands.specs.Ours.{ours}
 
