@@ -16,7 +16,7 @@ use Rattle.group.proofs.Close.{close-accepted, closed-number, closed-closed}
 use Rattle.group.proofs.Request.{request-keeps}
 use Rattle.history.specs.Run.{close, Reached, step, run, fresh, reached}
 use Rattle.history.proofs.Runs.{run-append}
-use Rattle.book.specs.Calls.{requestOf, requestsOf, bookCalls, groupOf}
+use Rattle.replay.specs.Calls.{requestOf, requestsOf, bookCalls, groupOf}
 use Rattle.book.specs.Read.{recordsIn, bookRead}
 use Rattle.format.specs.Header.{ticksIn, numberIn}
 use Rattle.tick.specs.Tick.{ofTick}

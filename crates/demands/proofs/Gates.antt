@@ -23,13 +23,13 @@ use Rattle.history.specs.Run.{Move, Reached, run, reached}
 use Rattle.history.proofs.Answers.{read-granted}
 use Rattle.history.proofs.Gate as gate
 use Rattle.history.proofs.Runs.{reached-append}
-use Rattle.book.specs.Calls.{bookCalls}
+use Rattle.replay.specs.Calls.{bookCalls}
 use Rattle.book.specs.Read.{recordsIn, bookRead}
 use Rattle.format.specs.Header.{ticksIn, numberIn}
-use Rattle.book.specs.Replay.{replayedGroup}
+use Rattle.replay.specs.Replay.{replayedGroup}
 use Rattle.book.specs.declared.BookRead.{BookRead}
 use Rattle.book.proofs.Accepted.{read-code, read-headed, read-formed, good-read}
-use Rattle.book.proofs.Replaying.{replay-reached, replay-calls}
+use Rattle.replay.proofs.Replaying.{replay-reached, replay-calls}
 use Rattle.demands.specs.Calls.{Call, Run, startFresh, startBook, reach}
 use Rattle.demands.specs.Gated.{Gated}
 use Rattle.demands.specs.Ours.{ours}

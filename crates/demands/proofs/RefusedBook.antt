@@ -14,12 +14,12 @@ use Rattle.rules.specs.Refusals.{badLength, badTotal, badHeader, badCount, badR
 use Rattle.group.specs.Fresh.{freshGroup}
 use Rattle.format.specs.Header.{lengthOf, beyond, totalIn, ticksIn, countIn, offsetIn, numberIn, headerRefusal, roomRefusal}
 use Rattle.book.specs.Read.{recordsIn, readRefusal, bookRead, listRead}
-use Rattle.book.specs.Records.{outside, carrierOf, lastOf, breaks, recordRefusal, firstRefused, recordsRefusal}
+use Rattle.records.specs.Records.{outside, carrierOf, lastOf, breaks, recordRefusal, firstRefused, recordsRefusal}
 use Rattle.tick.specs.Tick.{notGreater}
-use Rattle.book.specs.Records as records
+use Rattle.records.specs.Records as records
 use Rattle.book.specs.Write.{writeRefusal, bookWritten, bufferWritten}
-use Rattle.book.specs.declared.Refusal as book
-use Rattle.book.proofs.Pass.{well-formed, none-refused}
+use Rattle.records.specs.declared.Refusal as book
+use Rattle.records.proofs.Pass.{well-formed, none-refused}
 use Rattle.demands.specs.Lines.{Refusal, at, plain, none, Line, line, firstMet, eachBelow, Refuses}
 use Rattle.demands.specs.Refusals.{recordLines, readerLines, writerLines}
 use Rattle.demands.proofs.Lines.{any, first-each-last}

@@ -28,7 +28,7 @@ use Rattle.delivery.specs.declared.Delivery.{Delivery}
 use Rattle.delivery.specs.declared.Delivery.the-variants as delivery
 use Rattle.format.specs.Header.{lengthOf, beyond, totalIn, ticksIn, countIn, offsetIn, numberIn}
 use Rattle.book.specs.Read.{recordsIn}
-use Rattle.book.specs.Records.{outside, carrierOf, lastOf, breaks}
+use Rattle.records.specs.Records.{outside, carrierOf, lastOf, breaks}
 use Rattle.tick.specs.Tick.{notGreater}
 use Rattle.demands.specs.Lines.{Refusal, at, plain, none, Line, line, eachBelow}
 

@@ -13,11 +13,10 @@ use lib.Seq.{length-take-le, getD-take}
 use borrow.Author.Tests.{leb-true, leb-false, ne-eqb, le-ltb, lt-leb}
 use Rattle.base.proofs.Truth.{either}
 use Rattle.event.specs.Word.{tickOf}
-use Rattle.book.specs.Records.{outside, carrierOf, lastOf, breaks, recordRefusal, WellFormedRecords}
+use Rattle.records.specs.Records.{outside, carrierOf, lastOf, breaks, recordRefusal, WellFormedRecords}
 use Rattle.tick.specs.Tick.{notGreater}
-use Rattle.book.proofs.Pass.{Inside, Good, good}
+use Rattle.records.proofs.Pass.{Inside, Good, good, formed-rises}
 use Rattle.tick.proofs.Part.{climb}
-use Rattle.book.proofs.Promise.{formed-rises}
 use Rattle.kept.specs.Inserted.{inserted}
 use Rattle.kept.proofs.Among.{place, place-inside, place-from, place-last, at-before, at-place, at-behind, length-inserted}
 use Rattle.saved.proofs.Lasts.{last-same, last-before, last-other, last-stays}

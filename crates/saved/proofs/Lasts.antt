@@ -10,7 +10,7 @@ use lib.Dec.{eqb}
 use lib.ListN.{length, getD}
 use borrow.Author.Tests.{eqb-true, eqb-false, eq-eqb, ne-eqb}
 use Rattle.base.proofs.Truth.{either}
-use Rattle.book.specs.Records.{carrierOf, lastOf}
+use Rattle.records.specs.Records.{carrierOf, lastOf}
 use Rattle.kept.specs.Inserted.{inserted}
 use Rattle.kept.proofs.Among.{place, place-inside, at-before, at-place, at-behind, length-inserted}
 

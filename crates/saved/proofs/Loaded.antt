@@ -17,17 +17,16 @@ use Rattle.wire.proofs.Words.{length-words}
 use Rattle.group.specs.declared.Group.{Group}
 use Rattle.history.specs.Run.{Reached, fresh, reached}
 use Rattle.history.proofs.Keep.{keep-all}
-use Rattle.book.specs.Calls.{bookCalls}
+use Rattle.replay.specs.Calls.{bookCalls}
 use Rattle.book.specs.Read.{recordsIn, bookRead, listRead}
 use Rattle.format.specs.Header.{ticksIn, countIn, numberIn}
-use Rattle.book.specs.Records.{WellFormedRecords}
-use Rattle.book.specs.Replay.{counted, closedUpTo, replayedGroup}
+use Rattle.records.specs.Records.{WellFormedRecords}
+use Rattle.replay.specs.Replay.{counted, closedUpTo, replayedGroup}
 use Rattle.book.specs.declared.BookRead.{BookRead}
 use Rattle.book.proofs.Accepted.{read-code, read-headed, read-formed, good-read, good-list}
 use Rattle.tick.proofs.Part.{climb}
-use Rattle.book.proofs.Pass.{good}
-use Rattle.book.proofs.Promise.{formed-rises}
-use Rattle.book.proofs.Replaying.{replay-reached}
+use Rattle.records.proofs.Pass.{good, formed-rises}
+use Rattle.replay.proofs.Replaying.{replay-reached}
 use Rattle.kept.specs.Inserted.{inserted}
 use Rattle.kept.specs.Kept.{recordsOf}
 use Rattle.kept.proofs.Among.{place, place-inside, place-behind}

@@ -30,12 +30,11 @@ use Rattle.history.specs.WellFormed.{sideOf}
 use Rattle.history.proofs.Keep.{keep-append, keep-all, kept}
 use Rattle.history.proofs.Carried.{small}
 use Rattle.history.proofs.Sides.{ofSide, by-kind, carriers-range, Marks, known-side, marked-known}
-use Rattle.book.specs.Records.{carrierOf, lastOf, standsIn, breaks, WellFormedRecords}
-use Rattle.book.specs.Replay.{counted}
-use Rattle.book.proofs.Carriers.{codeOf, own-code, Known, start-known, close-known, mark-known}
-use Rattle.book.proofs.Pass.{Inside, good}
+use Rattle.records.specs.Records.{carrierOf, lastOf, standsIn, breaks, WellFormedRecords}
+use Rattle.replay.specs.Replay.{counted}
+use Rattle.replay.proofs.Carriers.{codeOf, own-code, Known, start-known, close-known, mark-known}
+use Rattle.records.proofs.Pass.{Inside, good, formed-rises}
 use Rattle.tick.proofs.Part.{climb}
-use Rattle.book.proofs.Promise.{formed-rises}
 use Rattle.kept.specs.Inserted.{inserted}
 use Rattle.kept.proofs.Among.{place, place-behind, place-from, take-inserted}
 use Rattle.saved.specs.Saved.{upTo}

@@ -21,12 +21,13 @@ use Rattle.history.proofs.Agreed.{reached-agrees}
 use Rattle.history.proofs.Keep.{kept}
 use Rattle.history.proofs.Runs.{reached-append}
 use Rattle.format.specs.Header.{lengthOf, ticksIn, numberIn, roomRefusal}
-use Rattle.book.specs.Calls.{bookCalls}
+use Rattle.replay.specs.Calls.{bookCalls}
 use Rattle.book.specs.Read.{recordsIn, bookRead}
-use Rattle.book.specs.Records.{WellFormedRecords}
+use Rattle.records.specs.Records.{WellFormedRecords}
+use Rattle.records.proofs.Pass.{formed-rises}
 use Rattle.book.specs.Write.{writeRefusal, bookWritten, bufferWritten}
 use Rattle.book.proofs.Accepted.{good-write}
-use Rattle.book.proofs.Promise.{ReadAsWritten, formed-rises, write-then-read}
+use Rattle.book.proofs.Promise.{ReadAsWritten, write-then-read}
 use Rattle.kept.specs.Kept.{room}
 use Rattle.saved.specs.Keeping.{Keeping, keepRun, freshKeeping, bookKeeping}
 use Rattle.saved.specs.Saved.{keptOf, savedOf, upTo, bookReached, closedOnes, Saves}

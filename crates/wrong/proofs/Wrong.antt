@@ -21,7 +21,7 @@ use Rattle.strip.specs.declared.Side.the-variants.{Model, Sheet}
 use Rattle.strip.proofs.Bad.{all-good}
 use Rattle.judge.specs.Judge.{StripsAccepted}
 use Rattle.bits.specs.Bit.{bit}
-use Rattle.book.specs.Replay.{counted}
+use Rattle.replay.specs.Replay.{counted}
 use Rattle.bits.specs.Granted.{granted}
 use Rattle.bits.proofs.Bit.{bit-zero}
 use Rattle.group.specs.Close.{closeAnswer}

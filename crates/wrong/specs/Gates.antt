@@ -7,7 +7,7 @@ use lib.ListN.{length, take, drop}
 use Rattle.rules.specs.Ranges.{sheets}
 use Rattle.rules.specs.Refusals.{badKind, badNumber, noTickLeft, badList, badGroup, lateNow, badLength, badHeader, badStore}
 use Rattle.wire.specs.Word.{le32, bytes32}
-use Rattle.book.specs.Replay.{counted}
+use Rattle.replay.specs.Replay.{counted}
 use Rattle.formula.specs.declared.Cause.the-variants.{None}
 use Rattle.formula.specs.declared.Verdict.{Verdict}
 use Rattle.formula.specs.declared.Verdict.the-variants as verdict
