@@ -22,13 +22,13 @@ use Rattle.event.specs.Word.{tickOf, kindOf, numberOf}
 use Rattle.format.specs.Header.{headerRefusal, roomRefusal}
 use Rattle.formula.specs.Answer.{verdictNumber, verdictValue}
 use Rattle.formula.specs.declared.Verdict.{Verdict}
-use Rattle.ferrulebee.specs.Delivered.{deliveryNumbers}
+use Rattle.crossing.specs.Delivered.{deliveryNumbers}
 use Rattle.loader.specs.Judge.{packed, judgedFrom}
-use Rattle.ferrulebee.specs.Part.{evidencePart, recordsPart}
-use Rattle.ferrulebee.specs.Read.{readNumbers}
-use Rattle.ferrulebee.specs.declared.deliver.Delivered.{Delivered}
-use Rattle.ferrulebee.specs.declared.gate.Read.{Read}
-use Rattle.ferrulebee.specs.declared.part.Part.{Part}
+use Rattle.crossing.specs.Part.{evidencePart, recordsPart}
+use Rattle.crossing.specs.Read.{readNumbers}
+use Rattle.crossing.specs.declared.numbers.Delivered.{Delivered}
+use Rattle.crossing.specs.declared.numbers.Read.{Read}
+use Rattle.crossing.specs.declared.part.Part.{Part}
 use Rattle.gather.specs.Gather.{gathered, gatheredEnd}
 use Rattle.group.specs.Carrier.{carriers, entering}
 use Rattle.group.specs.Close.{closeAnswer}
@@ -136,14 +136,18 @@ pub record PromisesDetermine : Type 0 where
   pub gather : (words : List ℕ) (side : Side) (n : ℕ) (out : List ℕ) (at : ℕ)
       → Once (ℕ × List ℕ) (λ r. (r .0 ≡ gatheredEnd words side n out at) × (r .1 ≡ gathered words side n out at))
   -- from C, in numbers: a read, a delivery with its buffer, the records of one tick, the evidence
+  -- crossing::numbers::of_read
+  pub of-read : (a : ReadAnswer) → Once Read (λ r. r ≡ readNumbers a)
+  -- crossing::numbers::of_delivery
+  pub of-delivery : (d : Delivery) → Once Delivered (λ r. r ≡ deliveryNumbers d)
   -- ferrulebee_read
   pub read-numbers : (g : Group) (m s : ℕ) → Once Read (λ r. r ≡ readNumbers (readAnswer g m s))
   -- ferrulebee_deliver
   pub delivery-numbers : (g : Group) (m : ℕ) (store out : List ℕ)
       → Once (Delivered × List ℕ) (λ r. (r .0 ≡ deliveryNumbers (answer (g .grants) m store (length out))) × (r .1 ≡ bufferAfter (g .grants) m store out))
-  -- ferrulebee_tick_part
+  -- crossing::part::records, ferrulebee_tick_part
   pub records-numbers : (ws : List ℕ) (t : ℕ) → Once Part (λ r. r ≡ recordsPart ws t)
-  -- ferrulebee_evidence
+  -- crossing::part::evidence, ferrulebee_evidence
   pub evidence-numbers : (m s : List ℕ) (now : ℕ) → Once Part (λ r. r ≡ evidencePart (judgedBy m s now) m s)
   -- what calls are made of: bits and sets, a kind's carriers, all of a close but the grants, a list that rises and a place in it
   -- bits::after_word
@@ -256,6 +260,8 @@ promises-determine = record {
   tick-part = λ ws t. two (tickPart (ws .now) t) (wordAt ws (tickStart (ws .now) t));
   first-bad = λ side now s. one (firstBad side now s);
   gather = λ words side n out at. two (gatheredEnd words side n out at) (gathered words side n out at);
+  of-read = λ a. one (readNumbers a);
+  of-delivery = λ d. one (deliveryNumbers d);
   read-numbers = λ g m s. one (readNumbers (readAnswer g m s));
   delivery-numbers = λ g m store out. two (deliveryNumbers (answer (g .grants) m store (length out))) (bufferAfter (g .grants) m store out);
   records-numbers = λ ws t. one (recordsPart ws t);

@@ -2,12 +2,11 @@
 ghost use mathlib.Core.Path.{_≡_};
 ghost use lib.ListN.{length};
 ghost use Rattle.book.specs.Read.{bookRead, listRead};
-ghost use Rattle.tick.specs.Tick.{tickStart};
 ghost use Rattle.book.specs.Write.{bookWritten, bufferWritten};
-ghost use Rattle.ferrulebee.specs.Part.{recordsPart};
-use super::part::Part;
+ghost use Rattle.crossing.specs.Part.{recordsPart};
 use book::BookRead;
 use book::BookWritten;
+use crossing::part::Part;
 
 #[no_mangle]
 pub extern "C" fn ferrulebee_book_read(bytes: &[u8], list: &mut [u32]) -> BookRead
@@ -28,25 +27,9 @@ pub extern "C" fn ferrulebee_book_write(
     book::write(ticks, number, words, buffer)
 }
 
-// Where the records of a tick stand, or would stand.
-fn start(words: &[u32], tick: u32) -> usize
-    ensures { λ r. ⌜ r ≡ tickStart (words .entry .now) tick ⌝ }
-{
-    if !tick::is_rising(words) {
-        return 0;
-    }
-    tick::place_from(words, tick as u64)
-}
-
 #[no_mangle]
 pub extern "C" fn ferrulebee_tick_part(words: &[u32], tick: u32) -> Part
     ensures { λ r. ⌜ r ≡ recordsPart (words .entry .now) tick ⌝ }
 {
-    let part = tick::tick_part(words, tick);
-    let count = part.len();
-    Part {
-        list: 0,
-        first: start(words, tick),
-        count,
-    }
+    crossing::part::records(words, tick)
 }

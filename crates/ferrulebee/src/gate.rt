@@ -6,35 +6,12 @@ ghost use Rattle.group.specs.Close.{closeAnswer};
 ghost use Rattle.group.specs.Read.{readAnswer};
 ghost use Rattle.group.specs.Count.{countAnswer};
 ghost use Rattle.station.specs.Mask.{maskAnswer};
-ghost use Rattle.ferrulebee.specs.Read.{readNumbers};
+ghost use Rattle.crossing.specs.Read.{readNumbers};
+use crossing::numbers::Read;
 use group::Answer;
 use group::CountAnswer;
 use group::Group;
-use group::ReadAnswer;
 use station::MaskAnswer;
-
-// A read's answer in numbers: a refusal's number, or 0 with 1 for granted and 0 for denied.
-#[repr(C)]
-pub struct Read {
-    pub code: u32,
-    pub granted: u32,
-}
-
-fn numbers(answer: ReadAnswer) -> Read
-    ensures { λ r. ⌜ r ≡ readNumbers answer ⌝ }
-{
-    match answer {
-        ReadAnswer::Granted => Read {
-            code: 0,
-            granted: 1,
-        },
-        ReadAnswer::Denied => Read {
-            code: 0,
-            granted: 0,
-        },
-        ReadAnswer::Refused(code) => Read { code, granted: 0 },
-    }
-}
 
 #[no_mangle]
 pub extern "C" fn ferrulebee_fresh(number: u32) -> Answer
@@ -61,7 +38,7 @@ pub extern "C" fn ferrulebee_close(group: Group) -> Answer
 pub extern "C" fn ferrulebee_read(group: Group, model: u32, sheet: u32) -> Read
     ensures { λ r. ⌜ r ≡ readNumbers (readAnswer group model sheet) ⌝ }
 {
-    numbers(group.read(model, sheet))
+    crossing::numbers::of_read(group.read(model, sheet))
 }
 
 #[no_mangle]

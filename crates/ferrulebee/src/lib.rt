@@ -3,8 +3,7 @@
 mod book_calls;
 mod deliver;
 mod gate;
-mod part;
-mod spans;
+mod strips;
 
 ghost use mathlib.Core.Path.{_≡_};
 ghost use Rattle.loader.specs.Judge.{packed, judgedFrom};

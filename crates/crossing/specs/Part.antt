@@ -7,7 +7,7 @@ use Rattle.formula.specs.declared.Verdict.the-variants.{Granted, Denied, Refuse
 use Rattle.formula.specs.declared.Moment.the-variants.{Add, Join}
 use Rattle.judge.specs.Evidence.{placeOf}
 use Rattle.tick.specs.Tick.{tickPart, tickStart}
-use Rattle.ferrulebee.specs.declared.part.Part.{Part}
+use Rattle.crossing.specs.declared.part.Part.{Part}
 
 -- the model's strip is list 0, the sheet's is list 1
 abbrev pub modelStrip : ℕ

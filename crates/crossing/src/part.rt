@@ -1,7 +1,8 @@
-// Parts of lent lists for C: which list, the first word, how many.
+// Parts of lent lists: which list, the first word, how many.
 ghost use mathlib.Core.Path.{_≡_};
 ghost use Rattle.judge.specs.Judge.{judgedBy};
-ghost use Rattle.ferrulebee.specs.Part.{evidencePart};
+ghost use Rattle.tick.specs.Tick.{tickStart};
+ghost use Rattle.crossing.specs.Part.{evidencePart, recordsPart};
 use formula::Moment;
 use formula::Verdict;
 
@@ -14,8 +15,7 @@ pub struct Part {
 }
 
 // The evidence is a tail, so its length says where it starts; the verdict says of which strip.
-#[no_mangle]
-pub extern "C" fn ferrulebee_evidence<'a>(m: &'a [u32], s: &'a [u32], now: u32) -> Part
+pub fn evidence<'a>(m: &'a [u32], s: &'a [u32], now: u32) -> Part
     ensures { λ r. ⌜ r ≡ evidencePart (judgedBy (m .entry .now) (s .entry .now) now) (m .entry .now) (s .entry .now) ⌝ }
 {
     let part = judge::evidence::evidence(m, s, now);
@@ -38,5 +38,28 @@ pub extern "C" fn ferrulebee_evidence<'a>(m: &'a [u32], s: &'a [u32], now: u32) 
             first: m.len() - count,
             count,
         },
+    }
+}
+
+// Where the records of a tick stand, or would stand.
+fn start(words: &[u32], tick: u32) -> usize
+    ensures { λ r. ⌜ r ≡ tickStart (words .entry .now) tick ⌝ }
+{
+    if !tick::is_rising(words) {
+        return 0;
+    }
+    tick::place_from(words, tick as u64)
+}
+
+// The records of a tick.
+pub fn records(words: &[u32], tick: u32) -> Part
+    ensures { λ r. ⌜ r ≡ recordsPart (words .entry .now) tick ⌝ }
+{
+    let part = tick::tick_part(words, tick);
+    let count = part.len();
+    Part {
+        list: 0,
+        first: start(words, tick),
+        count,
     }
 }

@@ -14,11 +14,11 @@ use Rattle.formula.specs.declared.Verdict.the-variants.{Granted, Denied, Refuse
 use Rattle.formula.specs.declared.Moment.{Moment}
 use Rattle.formula.specs.declared.Moment.the-variants.{Add, Join}
 use Rattle.judge.specs.Evidence.{placeOf, evidenceOf}
-use Rattle.ferrulebee.specs.declared.part.Part.{Part}
-use Rattle.ferrulebee.specs.Part.{modelStrip, sheetStrip, tailPart, evidencePart}
+use Rattle.crossing.specs.declared.part.Part.{Part}
+use Rattle.crossing.specs.Part.{modelStrip, sheetStrip, tailPart, evidencePart}
 use borrow.Author.Needs.{needs}
-use Rattle.ferrulebee.proofs.part.ferrulebee_evidence.Statement.{statement}
-use Rattle.ferrulebee.proofs.part.ferrulebee_evidence.Tie as tie
+use Rattle.crossing.proofs.part.evidence.Statement.{statement}
+use Rattle.crossing.proofs.part.evidence.Tie as tie
 
 abbrev part : ℕ → ℕ → ℕ → Part
 part list first count = record { list = list; first = first; count = count }
@@ -103,8 +103,8 @@ returns-3 c =
     let k = told _ _ _ _ (a .m .now) (a .s .now) _ (j .judge .ensures .answer) (b .moment .given .1) (c .enum-told2 .given .1) (j .before .evidence .ensures .0) in
     rw (k .0) (tail-is modelStrip (a .m .now) _ _ (k .1))
 
-pub ferrulebee-evidence-spec : {M : Type 1} → statement M
-ferrulebee-evidence-spec =
+pub evidence-spec : {M : Type 1} → statement M
+evidence-spec =
     tie.close
     (tie.spec
     evidence-requires

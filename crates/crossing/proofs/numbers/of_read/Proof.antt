@@ -1,8 +1,8 @@
 -- A read's three cases, each in numbers.
 use mathlib.Core.Path.{refl}
 use borrow.Author.Needs.{needs}
-use Rattle.ferrulebee.proofs.gate.numbers.Statement.{statement}
-use Rattle.ferrulebee.proofs.gate.numbers.Tie as tie
+use Rattle.crossing.proofs.numbers.of_read.Statement.{statement}
+use Rattle.crossing.proofs.numbers.of_read.Tie as tie
 
 enum-told : tie.Need-enum-told
 enum-told c = search needs
@@ -22,6 +22,6 @@ returns-2 c = rw (c .enum-told2 .given .1) refl
 returns-3 : tie.Need-returns-3
 returns-3 c = rw (c .before .answer .given .1) refl
 
-pub numbers-spec : {M : Type 1} → statement M
-numbers-spec =
+pub of-read-spec : {M : Type 1} → statement M
+of-read-spec =
     tie.close (tie.spec enum-told enum-told-2 enum-known-answer returns returns-2 returns-3)

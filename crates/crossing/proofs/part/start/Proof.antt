@@ -6,8 +6,8 @@ use Prim.Native.Nat.{ℕ}
 use borrow.Author.Tests.{not-true, not-false}
 use Rattle.tick.specs.Tick.{rising, placeFrom, tickStart}
 use borrow.Author.Needs.{needs}
-use Rattle.ferrulebee.proofs.book_calls.start.Statement.{statement}
-use Rattle.ferrulebee.proofs.book_calls.start.Tie as tie
+use Rattle.crossing.proofs.part.start.Statement.{statement}
+use Rattle.crossing.proofs.part.start.Tie as tie
 
 start-falling : (ws : List ℕ) (t : ℕ) → rising ws ≡ false → 0 ≡ tickStart ws t
 unfolding tickStart

@@ -16,8 +16,8 @@ use Rattle.formula.specs.declared.Moment.the-variants.{Add, Join}
 use Rattle.judge.specs.Evidence.{placeOf, evidenceOf, startOf}
 use Rattle.tick.specs.Tick.{rising, placeFrom, tickPart, tickStart}
 use Rattle.tick.proofs.Part.{no-part, part-here}
-use Rattle.ferrulebee.specs.declared.part.Part.{Part}
-use Rattle.ferrulebee.specs.Part.{sheetStrip, evidencePart, recordsPart}
+use Rattle.crossing.specs.declared.part.Part.{Part}
+use Rattle.crossing.specs.Part.{sheetStrip, evidencePart, recordsPart}
 
 -- the words that a part's numbers name in a list
 abbrev pub wordsOf : Part → List ℕ → List ℕ

@@ -3,10 +3,10 @@ use mathlib.Core.Path.{ap, ap₂}
 use mathlib.Core.List.{List}
 use Prim.Native.Nat.{ℕ}
 use lib.ListN.{length}
-use Rattle.ferrulebee.specs.declared.part.Part.{Part}
+use Rattle.crossing.specs.declared.part.Part.{Part}
 use borrow.Author.Needs.{needs}
-use Rattle.ferrulebee.proofs.book_calls.ferrulebee_tick_part.Statement.{statement}
-use Rattle.ferrulebee.proofs.book_calls.ferrulebee_tick_part.Tie as tie
+use Rattle.crossing.proofs.part.records.Statement.{statement}
+use Rattle.crossing.proofs.part.records.Tie as tie
 
 abbrev part : ℕ → ℕ → Part
 part first count = record { list = 0; first = first; count = count }
@@ -20,5 +20,5 @@ start-requires c κs = search needs
 returns : tie.Need-returns
 returns c = ap₂ part (c .start .ensures) (ap length (c .before .tick-part .ensures .0))
 
-pub ferrulebee-tick-part-spec : {M : Type 1} → statement M
-ferrulebee-tick-part-spec = tie.close (tie.spec tick-part-requires start-requires returns)
+pub records-spec : {M : Type 1} → statement M
+records-spec = tie.close (tie.spec tick-part-requires start-requires returns)

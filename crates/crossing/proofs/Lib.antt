@@ -1,0 +1,2 @@
+-- What the numbers name.
+pub mod Parts

@@ -1,2 +1,0 @@
--- What the promises of the exported calls fix.
-pub mod Parts
