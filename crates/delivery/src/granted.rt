@@ -1,4 +1,4 @@
-// Deliveries: the granted sheets of a store, written to a lent buffer.
+// The delivery by grants: the granted sheets of a store, written to a lent buffer.
 ghost use mathlib.Core.Path.{_≡_};
 ghost use lib.ListN.{length};
 ghost use Rattle.delivery.specs.Answer.{Delivers, bufferAfter};

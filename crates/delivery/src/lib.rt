@@ -1,4 +1,4 @@
-// A delivery to a model from one group: the delivery by the group's grants as of its last close. The group stays as it is.
+// Deliveries to a model: by grants (`granted`), and from one group, by its grants as of its last close. The group stays as it is.
 mod check;
 pub mod granted;
 

@@ -1,4 +1,4 @@
--- The list of the granted sheets, sheet by sheet; it rests on the granted bits alone. Assumes nothing.
+-- The list of the granted sheets, sheet by sheet. Assumes nothing.
 use mathlib.Core.Path.{_≡_, refl, ap₂}
 use mathlib.Core.Bool.{Bool, true, false, cond}
 use mathlib.Core.List.{List, [], _∷_, _++_, append-nil}
@@ -17,6 +17,7 @@ module _ (grants : List ℕ) (m s : ℕ) where
   unfolding grantedBelow
   below-out e = rw (add-one s, e, append-nil)
 
+-- the same bits give the same list
 pub below-same : (grants grants′ : List ℕ) (m n : ℕ) → ((s : ℕ) → s < n → granted grants m s ≡ granted grants′ m s) → grantedBelow grants m n ≡ grantedBelow grants′ m n
 unfolding grantedBelow
 below-same grants grants′ m zero h = refl

@@ -61,6 +61,7 @@ pub parts-one : (b : List ℕ) (s : ℕ) → parts b (s ∷ []) ≡ part b s
 unfolding parts
 parts-one b s = append-nil (part b s)
 
+-- of two stores with the same part for each sheet the parts are the same
 pub parts-same : (b b′ ss : List ℕ) → ((i : ℕ) → i < length ss → part b (getD ss i 0) ≡ part b′ (getD ss i 0)) → parts b ss ≡ parts b′ ss
 unfolding parts
 parts-same b b′ [] h = refl
