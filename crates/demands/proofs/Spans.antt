@@ -18,9 +18,9 @@ use Rattle.strip.specs.History.{historyOf}
 use Rattle.wire.specs.Put.{put}
 use Rattle.judge.specs.Judge.{StripsAccepted}
 use Rattle.span.specs.Answer.{flat, spansIn, spansAnswer, listAfter}
-use Rattle.span.specs.Spans.{Span, LiesIn, Spans}
+use Rattle.spanning.specs.Spans.{Span, LiesIn, Spans}
 use Rattle.span.proofs.Answers.{answer-given, list-given}
-use Rattle.span.proofs.Exactly.{spans-are, lies-after}
+use Rattle.spanning.proofs.Exactly.{spans-are, lies-after}
 use Rattle.span.proofs.Few.{spans-few}
 use Rattle.group.specs.Read.{readAnswer}
 use Rattle.group.specs.declared.Group.{Group}

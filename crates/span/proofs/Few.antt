@@ -21,7 +21,7 @@ use Rattle.formula.proofs.Meaning.{means-grant}
 use Rattle.formula.proofs.Move.{grant-moves}
 use Rattle.strip.specs.History.{historyOf}
 use Rattle.span.specs.Answer.{spansIn}
-use Rattle.span.specs.SpansOf.{spansFrom, spansOf}
+use Rattle.spanning.specs.SpansOf.{spansFrom, spansOf}
 
 -- ---- the ticks in which a carrier has an event
 abbrev busy : History → ℕ → Bool

@@ -8,8 +8,8 @@ use borrow.Author.Tests.{lt-ltb, le-ltb}
 use Rattle.wire.specs.Put.{put}
 use Rattle.wire.proofs.Put.{put-none, put-one, put-next, length-put}
 use Rattle.span.specs.Answer.{flat}
-use Rattle.span.specs.Spans.{Span}
-use Rattle.span.specs.Steps.{pairAt, pairsFrom}
+use Rattle.spanning.specs.Spans.{Span}
+use Rattle.spanning.specs.Steps.{pairAt, pairsFrom}
 
 -- a list of fewer than two numbers stays
 pub no-room : (l : List Span) (list : List ℕ) (place : ℕ) → length list < 2 → pairsFrom list place l ≡ list

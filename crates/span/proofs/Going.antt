@@ -20,11 +20,11 @@ use Rattle.pass.specs.Pass.{begun}
 use Rattle.pass.specs.declared.Pass.{Pass}
 use Rattle.pass.proofs.Turn.{placeOf, Stands, Turns, begins}
 use Rattle.span.specs.Answer.{spansIn}
-use Rattle.span.specs.Spans.{Span}
-use Rattle.span.specs.SpansOf.{endedAt, spansFrom}
-use Rattle.span.specs.Steps.{pairAt, pairsFrom, turned, turnedList, ended, endedList}
-use Rattle.span.specs.declared.Spanning.{Spanning}
-use Rattle.span.proofs.Left.{isOpen, left, over, at-end, turn-list, turn-count, turn-open, end-list, end-count}
+use Rattle.spanning.specs.Spans.{Span}
+use Rattle.spanning.specs.SpansOf.{endedAt, spansFrom}
+use Rattle.spanning.specs.Steps.{pairAt, pairsFrom, turned, turnedList, ended, endedList}
+use Rattle.spanning.specs.declared.Spanning.{Spanning}
+use Rattle.spanning.proofs.Left.{isOpen, left, over, at-end, turn-list, turn-count, turn-open, end-list, end-count}
 
 -- a list keeps its length
 long-pair : (list : List ℕ) (place first last : ℕ) → length (pairAt list place first last) ≡ length list

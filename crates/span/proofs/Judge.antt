@@ -19,8 +19,8 @@ use Rattle.formula.specs.declared.Verdict.the-variants.{Granted}
 use Rattle.strip.specs.History.{historyOf}
 use Rattle.judge.specs.Judge.{StripsAccepted, judgedBy}
 use Rattle.judge.proofs.Promise.{judge-means, judge-grants}
-use Rattle.span.specs.Spans.{Span, Apart, LiesIn, Spans, LastIs, OpenSince}
-use Rattle.span.proofs.Exactly.{lies-after}
+use Rattle.spanning.specs.Spans.{Span, Apart, LiesIn, Spans, LastIs, OpenSince}
+use Rattle.spanning.proofs.Exactly.{lies-after}
 
 -- ---- the last pair
 module _ (now : ℕ) where

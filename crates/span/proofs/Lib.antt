@@ -1,9 +1,7 @@
--- Laws of the spans.
+-- Laws of the spans of two strips.
 pub mod Answers
-pub mod Exactly
 pub mod Few
 pub mod Fit
 pub mod Going
 pub mod Judge
-pub mod Left
 pub mod Wrong

@@ -13,9 +13,9 @@ use Rattle.formula.specs.Since.{since}
 use Rattle.formula.specs.Ticks.{inside, liberal, byAdd, byJoin, grant}
 use Rattle.strip.specs.History.{historyOf}
 use Rattle.span.specs.Answer.{spansIn}
-use Rattle.span.specs.Spans.{Span, Spans}
-use Rattle.span.specs.SpansOf.{spansFrom}
-use Rattle.span.proofs.Exactly.{only-spans}
+use Rattle.spanning.specs.Spans.{Span, Spans}
+use Rattle.spanning.specs.SpansOf.{spansFrom}
+use Rattle.spanning.proofs.Exactly.{only-spans}
 
 pub record Row : Type 0 where
   pub model : List ℕ

@@ -8,8 +8,8 @@ use Rattle.rules.specs.Refusals.{tooManySpans}
 use Rattle.wire.specs.Put.{put}
 use Rattle.strip.specs.History.{historyOf}
 use Rattle.judge.specs.Judge.{checked}
-use Rattle.span.specs.Spans.{Span}
-use Rattle.span.specs.SpansOf.{spansOf}
+use Rattle.spanning.specs.Spans.{Span}
+use Rattle.spanning.specs.SpansOf.{spansOf}
 use Rattle.span.specs.declared.SpansAnswer.{SpansAnswer}
 
 -- a list of numbers: each pair's first tick and last tick

@@ -1,4 +1,1 @@
 pub mod Answer
-pub mod Spans
-pub mod SpansOf
-pub mod Steps

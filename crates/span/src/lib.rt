@@ -1,12 +1,11 @@
 // When could a model read a sheet? From their strips and now, the spans of ticks in which the grant held, as pairs (first tick, last tick).
 ghost use mathlib.Core.Path.{_≡_};
-ghost use mathlib.Core.Bool.{cond};
-ghost use Prim.Native.Nat.{_+_, _≤_};
-ghost use lib.Dec.{eqb};
+ghost use Prim.Native.Nat.{_≤_};
 ghost use lib.ListN.{length};
 ghost use Rattle.judge.specs.Judge.{StripsAccepted};
 ghost use Rattle.span.specs.Answer.{spansIn, spansAnswer, listAfter};
-ghost use Rattle.span.specs.Steps.{most, pairAt, pairsFrom, ended, endedList, turned, turnedList};
+ghost use Rattle.spanning.specs.Steps.{most, pairsFrom};
+use spanning::Spanning;
 
 // A refusal's number with its place, 0 where it has none, and count 0; or 0 and 0 with how many spans there are.
 #[repr(C)]
@@ -14,61 +13,6 @@ pub struct SpansAnswer {
     pub code: u32,
     pub place: u32,
     pub count: u32,
-}
-
-// The first tick of the span that is open, 0 where none is, and how many have ended.
-pub struct Spanning {
-    pub first: u32,
-    pub count: usize,
-}
-
-// Writes a pair at its place, where the list has room for it.
-fn write(list: &mut [u32], place: usize, first: u32, last: u32)
-    ensures { λ _. ⌜ list .exit .now ≡ pairAt (list .entry .now) place first last ⌝ }
-{
-    if place < list.len() / 2 {
-        list[2 * place] = first;
-        list[2 * place + 1] = last;
-    }
-}
-
-// Ends the open span, where one is open.
-fn end(list: &mut [u32], was: Spanning, last: u32) -> Spanning
-    requires { ⌜ was .count ≤ most ⌝ }
-    ensures { λ r. ⌜ (r ≡ ended was) × (list .exit .now ≡ endedList (list .entry .now) was last) ⌝ }
-{
-    if was.first == 0 {
-        return was;
-    }
-    write(list, was.count, was.first, last);
-    Spanning {
-        first: 0,
-        count: was.count + 1,
-    }
-}
-
-// Where the grant holds at a tick, the open span goes on, or one begins.
-fn opened(since: u32, tick: u32) -> u32
-    ensures { λ r. ⌜ r ≡ cond (eqb since 0) tick since ⌝ }
-{
-    if since == 0 {
-        return tick;
-    }
-    since
-}
-
-// A tick with events: the grant holds after it, or not.
-fn turn(list: &mut [u32], was: Spanning, tick: u32, holds: bool) -> Spanning
-    requires { ⌜ (1 ≤ tick) × (was .count ≤ most) ⌝ }
-    ensures { λ r. ⌜ (r ≡ turned was tick holds) × (list .exit .now ≡ turnedList (list .entry .now) was tick holds) ⌝ }
-{
-    if holds {
-        return Spanning {
-            first: opened(was.first, tick),
-            count: was.count,
-        };
-    }
-    end(list, was, tick - 1)
 }
 
 // One pass over both strips counts the spans, and writes those pairs for which the list has room.
@@ -82,9 +26,9 @@ fn pairs(m: &[u32], s: &[u32], now: u32, list: &mut [u32]) -> usize
         pass = pass::advance(m, s, pass);
         let seen = pass.seen;
         let standing = seen.standing;
-        spanning = turn(&mut *list, spanning, pass.tick, standing::holds(standing));
+        spanning = spanning::turn(&mut *list, spanning, pass.tick, standing::holds(standing));
     }
-    let last = end(list, spanning, now);
+    let last = spanning::end(list, spanning, now);
     last.count
 }
 

@@ -8,8 +8,8 @@ use Rattle.strip.proofs.Places.{tickAt, good-rising, good-upto}
 use Rattle.standing.specs.Scan.{never}
 use Rattle.pass.specs.declared.Pass.{Pass}
 use Rattle.pass.proofs.Turn.{Turns, turns}
-use Rattle.span.specs.Steps.{most, turned, turnedList}
-use Rattle.span.specs.declared.Spanning.{Spanning}
+use Rattle.spanning.specs.Steps.{most, turned, turnedList}
+use Rattle.spanning.specs.declared.Spanning.{Spanning}
 use Rattle.span.proofs.Going.{Going, going-start, going-on, going-count, going-list, long-ended}
 use borrow.Author.Needs.{needs}
 use Rattle.span.proofs.pairs.Statement.{statement}

@@ -9,8 +9,8 @@ use Rattle.judge.specs.Judge.{StripsAccepted, checked}
 use Rattle.judge.specs.declared.check.Checked.{Checked}
 use Rattle.judge.proofs.Checked.{check-accepts}
 use Rattle.span.specs.Answer.{spansIn, refused, spansAnswer, listAfter}
-use Rattle.span.specs.Spans.{Span}
-use Rattle.span.specs.Steps.{most, pairsFrom}
+use Rattle.spanning.specs.Spans.{Span}
+use Rattle.spanning.specs.Steps.{most, pairsFrom}
 use Rattle.span.specs.declared.SpansAnswer.{SpansAnswer}
 use Rattle.span.proofs.Answers.{answer-refused, list-refused, answer-crowded, list-crowded, answer-given, list-given}
 use Rattle.span.proofs.Few.{spans-few}

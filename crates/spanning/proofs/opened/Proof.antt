@@ -1,6 +1,6 @@
 use borrow.Author.Tests.{eq-eqb, ne-eqb}
-use Rattle.span.proofs.opened.Statement.{statement}
-use Rattle.span.proofs.opened.Tie as tie
+use Rattle.spanning.proofs.opened.Statement.{statement}
+use Rattle.spanning.proofs.opened.Tie as tie
 
 returns : tie.Need-returns
 returns c = rw (eq-eqb _ _ (c .if1 .taken))

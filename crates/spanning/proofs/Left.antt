@@ -9,10 +9,10 @@ use native.Mathlib.Nat.{eq-or-lt-of-le}
 use lib.Dec.{eqb, eqb·suc-zero}
 use lib.ListN.{length}
 use borrow.Author.Tests.{ne-eqb}
-use Rattle.span.specs.Spans.{Span}
-use Rattle.span.specs.SpansOf.{openedAt, endedAt, spansFrom}
-use Rattle.span.specs.Steps.{pairsFrom, turned, turnedList, ended, endedList}
-use Rattle.span.specs.declared.Spanning.{Spanning}
+use Rattle.spanning.specs.Spans.{Span}
+use Rattle.spanning.specs.SpansOf.{openedAt, endedAt, spansFrom}
+use Rattle.spanning.specs.Steps.{pairsFrom, turned, turnedList, ended, endedList}
+use Rattle.spanning.specs.declared.Spanning.{Spanning}
 
 -- a span is open
 abbrev pub isOpen : ℕ → Bool

@@ -1,7 +1,7 @@
 use mathlib.Core.Path.{refl}
 use borrow.Author.Needs.{needs}
-use Rattle.span.proofs.turn.Statement.{statement}
-use Rattle.span.proofs.turn.Tie as tie
+use Rattle.spanning.proofs.turn.Statement.{statement}
+use Rattle.spanning.proofs.turn.Tie as tie
 
 opened-requires : tie.Need-opened-requires
 opened-requires c κs = search needs

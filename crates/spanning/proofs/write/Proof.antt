@@ -3,8 +3,8 @@ use native.Mathlib.Omega.{arith}
 use lib.ListN.{length-set}
 use borrow.Author.Tests.{lt-ltb, le-ltb}
 use borrow.Author.Needs.{needs}
-use Rattle.span.proofs.write.Statement.{statement}
-use Rattle.span.proofs.write.Tie as tie
+use Rattle.spanning.proofs.write.Statement.{statement}
+use Rattle.spanning.proofs.write.Tie as tie
 
 mul-list : tie.Need-mul-list
 mul-list c = search needs

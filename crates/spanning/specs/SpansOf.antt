@@ -4,7 +4,7 @@ use mathlib.Core.List.{List, [], _∷_, _++_}
 use Prim.Native.Nat.{ℕ, zero, suc}
 use Rattle.formula.specs.Formula.{History}
 use Rattle.formula.specs.Ticks.{grant}
-use Rattle.span.specs.Spans.{Span}
+use Rattle.spanning.specs.Spans.{Span}
 
 -- A span is open since its first tick; 0 stands for no span. Where the grant holds at tick t, the open span goes on, or one begins.
 abbrev pub openedAt : ℕ → ℕ → ℕ

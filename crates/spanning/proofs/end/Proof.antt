@@ -1,8 +1,8 @@
 use mathlib.Core.Path.{refl}
 use borrow.Author.Tests.{eq-eqb, ne-eqb}
 use borrow.Author.Needs.{needs}
-use Rattle.span.proofs.end.Statement.{statement}
-use Rattle.span.proofs.end.Tie as tie
+use Rattle.spanning.proofs.end.Statement.{statement}
+use Rattle.spanning.proofs.end.Tie as tie
 
 returns : tie.Need-returns
 returns c = simp (eq-eqb _ _ (c .if1 .taken)) (refl, refl)

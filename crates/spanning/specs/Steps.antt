@@ -5,8 +5,8 @@ use Prim.Native.Nat.{ℕ, _+_, _*_, _-_, _/_}
 use lib.Dec.{eqb, ltb}
 use lib.ListN.{length, set}
 use Rattle.rules.specs.Ranges.{events}
-use Rattle.span.specs.Spans.{Span}
-use Rattle.span.specs.declared.Spanning.{Spanning}
+use Rattle.spanning.specs.Spans.{Span}
+use Rattle.spanning.specs.declared.Spanning.{Spanning}
 
 -- no two strips have more events, and so no more spans
 abbrev pub most : ℕ

@@ -10,8 +10,8 @@ use Rattle.base.proofs.Truth.{either}
 use Rattle.formula.specs.Formula.{History}
 use Rattle.formula.specs.Ticks.{grant}
 use Rattle.formula.proofs.Meaning.{means-grant}
-use Rattle.span.specs.Spans.{Span, Apart, LiesIn, Spans}
-use Rattle.span.specs.SpansOf.{spansFrom, spansOf}
+use Rattle.spanning.specs.Spans.{Span, Apart, LiesIn, Spans}
+use Rattle.spanning.specs.SpansOf.{spansFrom, spansOf}
 
 -- ---- what is computed is the spans
 -- a span that is open at tick b began after tick a; without one, a is not after b

@@ -1,0 +1,3 @@
+-- Laws of the spans of two histories.
+pub mod Exactly
+pub mod Left
