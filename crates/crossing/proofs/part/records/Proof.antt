@@ -1,4 +1,4 @@
--- The part's length is that of `book::tick_part`, its start the place that this call promises too.
+-- The part's length is that of `tick::tick_part`, its start the place that this call promises too.
 use mathlib.Core.Path.{ap, ap₂}
 use mathlib.Core.List.{List}
 use Prim.Native.Nat.{ℕ}
