@@ -13,13 +13,21 @@ fn failed() -> Came {
     }
 }
 
-// Reads a file to the front of the buffer, as far as the buffer goes.
-pub fn read(name: &[u8], buffer: &mut [u8]) -> Came {
+// The first bytes of some, as many as there are up to a length.
+pub fn front(bytes: &mut [u8], length: usize) -> &mut [u8] {
+    if length > bytes.len() {
+        return bytes;
+    }
+    &mut bytes[0..length]
+}
+
+// Reads a file to the front of the bytes, as far as a length goes.
+pub fn read(name: &[u8], bytes: &mut [u8], length: usize) -> Came {
     let fd = os::open_read(name);
     if fd < 0 {
         return failed();
     }
-    let length = io::read_full(fd, buffer);
+    let length = io::read_full(fd, front(bytes, length));
     // a read that failed looks like the file's end, but one more fails again: a folder's, a broken disk's
     let mut more = [0u8; 1];
     let asked = libc::read(fd, &mut more);

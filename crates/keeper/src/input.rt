@@ -3,6 +3,11 @@ ghost use Prim.Native.Nat.{_≤_};
 ghost use lib.ListN.{length};
 use libc::STDIN_FILENO;
 
+// The bytes of the buffer.
+pub const BUFFER: usize = 65536;
+
+pub type Buffer = [u8; BUFFER];
+
 // The bytes at hand, from `at` to `end` of the buffer, and whether they are the last.
 pub struct Input {
     pub at: usize,
@@ -46,7 +51,7 @@ fn to_front(buffer: &mut [u8], at: usize, end: usize) -> usize
 {
     let mut n: usize = 0;
     let mut from = at;
-    while (n < super::line::LINE) & (from < end) {
+    while (n < ask::line::LINE) & (from < end) {
         if from >= buffer.len() {
             return n;
         }

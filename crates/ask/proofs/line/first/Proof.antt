@@ -2,8 +2,8 @@ use borrow.Author.Needs.{needs}
 use Prim.Native.Nat.{_≤_, _<_, _-_}
 use mathlib.Core.Path.{_≡_}
 use lib.ListN.{length}
-use Rattle.keeper.proofs.line.first.Statement.{statement}
-use Rattle.keeper.proofs.line.first.Tie as tie
+use Rattle.ask.proofs.line.first.Statement.{statement}
+use Rattle.ask.proofs.line.first.Tie as tie
 
 abbrev Inv-loop : tie.InvT-loop
 Inv-loop bytes edges₀ n₀ inside₀ i₀ edges n inside i = (n < 10) × (length edges ≡ 10) × (i ≤ length bytes)

@@ -2,8 +2,8 @@ use borrow.Author.Needs.{needs}
 use Prim.Native.Nat.{_≤_, _-_}
 use mathlib.Core.Path.{_≡_}
 use lib.ListN.{length}
-use Rattle.keeper.proofs.line.decimal.Statement.{statement}
-use Rattle.keeper.proofs.line.decimal.Tie as tie
+use Rattle.ask.proofs.line.decimal.Statement.{statement}
+use Rattle.ask.proofs.line.decimal.Tie as tie
 
 abbrev Inv-loop : tie.InvT-loop
 Inv-loop word value₀ i₀ i-end value i = (i ≤ i-end) × (i-end ≡ length word)

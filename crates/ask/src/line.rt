@@ -70,23 +70,10 @@ pub fn word(bytes: &[u8], line: Line, k: usize) -> &[u8] {
     part(bytes, from, to)
 }
 
-// The two texts are the same.
-pub fn is(word: &[u8], name: &[u8]) -> bool {
-    if word.len() != name.len() {
-        return false;
-    }
-    for i in 0..word.len() {
-        if word[i] != name[i] {
-            return false;
-        }
-    }
-    true
-}
-
-pub enum Number {
-    Value(u32),
-    NotDecimal,
-    TooLarge,
+// A number, or the reason why a word is none.
+pub struct Number {
+    pub reason: u32,
+    pub value: u32,
 }
 
 // A word as a number: decimal digits, leading zeros allowed. A value that is too large stays so.
@@ -95,14 +82,23 @@ pub fn decimal(word: &[u8]) -> Number {
     for i in 0..word.len() {
         let byte = word[i];
         if (byte < b'0') | (byte > b'9') {
-            return Number::NotDecimal;
+            return Number {
+                reason: super::NOT_DECIMAL,
+                value: 0,
+            };
         }
         if value <= 4294967295 {
             value = value * 10 + (byte % 48) as u64;
         }
     }
     if value > 4294967295 {
-        return Number::TooLarge;
+        return Number {
+            reason: super::TOO_LARGE,
+            value: 0,
+        };
     }
-    Number::Value(value as u32)
+    Number {
+        reason: 0,
+        value: value as u32,
+    }
 }
