@@ -1,8 +1,11 @@
-// What a line of the keeper's language asks for: a command with its numbers, or the reason why it is none.
+// What the next line of standard input asks for: a command with its numbers, or the reason why it is none.
 mod command;
+pub mod input;
 pub mod line;
 
 use command::Command;
+use input::Buffer;
+use input::Input;
 use line::Line;
 use line::Number;
 
@@ -13,35 +16,37 @@ pub struct Asked {
     pub b: u32,
 }
 
-// The commands that leave the group and all files as they are; the first is a line without words, or none that is whole.
-pub const NOTHING: u32 = 0;
+// What leaves everything as it is: no line that is whole, so that more input is waited for; a line without words; one that can't be taken; and the questions.
+pub const MORE: u32 = 0;
 
-pub const WHAT: u32 = 1;
+pub const NOTHING: u32 = 1;
 
-pub const HELP: u32 = 2;
+pub const WHAT: u32 = 2;
 
-pub const READ: u32 = 3;
+pub const HELP: u32 = 3;
 
-pub const MODELS: u32 = 4;
+pub const READ: u32 = 4;
 
-// Those on the open tick.
-pub const REQUEST: u32 = 5;
+pub const MODELS: u32 = 5;
 
-pub const CLOSE: u32 = 6;
+// The commands on the open tick.
+pub const REQUEST: u32 = 6;
 
-// Those that take another group or store, and the files.
-pub const FRESH: u32 = 7;
+pub const CLOSE: u32 = 7;
 
-pub const LOAD: u32 = 8;
+// Those that take another group or another store, and those that write a file.
+pub const FRESH: u32 = 8;
 
-pub const STORE: u32 = 9;
+pub const LOAD: u32 = 9;
 
-pub const SAVE: u32 = 10;
+pub const STORE: u32 = 10;
 
-pub const DELIVER: u32 = 11;
+pub const SAVE: u32 = 11;
+
+pub const DELIVER: u32 = 12;
 
 // The end of the input.
-pub const END: u32 = 12;
+pub const END: u32 = 13;
 
 // The reasons why a line can't be taken; 0 where there is none.
 pub const LONG_LINE: u32 = 1;
@@ -153,4 +158,37 @@ pub fn of_line(bytes: &[u8], line: Line) -> Asked {
         return what(reason);
     }
     of_command(command, bytes, line)
+}
+
+// What is heard: the input behind a line, where that line starts, and what it asks for.
+pub struct Heard {
+    pub input: Input,
+    pub from: usize,
+    pub asked: Asked,
+}
+
+// Hears the line at hand; what is left when the input is over is the last line.
+pub fn hear(input: Input, buffer: &Buffer) -> Heard {
+    let from = input.at;
+    let hand = line::part(buffer, from, input.end);
+    let line = line::first(hand);
+    if line.whole | (input.over & (hand.len() > 0)) {
+        return Heard {
+            input: input::behind(input, line.length),
+            from,
+            asked: of_line(hand, line),
+        };
+    }
+    if input.over {
+        return Heard {
+            input,
+            from,
+            asked: bare(END),
+        };
+    }
+    Heard {
+        input,
+        from,
+        asked: bare(MORE),
+    }
 }

@@ -32,7 +32,10 @@ fn next(n: usize, edge: bool) -> usize
     if n >= EDGES - 1 {
         return EDGES - 1;
     }
-    if edge { n + 1 } else { n }
+    if edge {
+        return n + 1;
+    }
+    n
 }
 
 // Finds the line at the front and its words in one pass. Each byte's place is noted, and stays noted where a word begins or ends: so there is no branch that a processor has to guess.

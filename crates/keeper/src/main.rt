@@ -4,16 +4,16 @@ ghost use lib.ListN.{length};
 
 mod console;
 mod file;
-mod input;
 mod keep;
 
 use answer::Out;
 use ask::Asked;
+use ask::input;
+use ask::input::Buffer;
 use console::Console;
 use console::Done;
 use group::Answer;
 use group::Group;
-use input::Buffer;
 use keep::Bytes;
 use keep::Events;
 use keep::Sheets;
@@ -89,10 +89,12 @@ fn converse(
             continue;
         }
         if name == ask::END {
+            answer::flush(&*out, console.at);
             return;
         }
         let done = keep::seldom(
-            Done { last, console },
+            last,
+            console,
             &*buffer,
             &mut *events,
             &mut *sheets,

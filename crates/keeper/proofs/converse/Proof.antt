@@ -50,6 +50,9 @@ loop-less-3 c = search needs
 loop-again-3 : tie.Need-loop-again-3 Inv-loop μ-loop
 loop-again-3 c = search needs
 
+flush-requires : tie.Need-flush-requires Inv-loop μ-loop
+flush-requires c κs = search needs
+
 returns : tie.Need-returns Inv-loop μ-loop
 returns c = search needs
 
@@ -85,6 +88,7 @@ converse-spec =
     closed-requires
     loop-less-3
     loop-again-3
+    flush-requires
     returns
     seldom-requires
     loop-less-4

@@ -2,8 +2,8 @@ use borrow.Author.Needs.{needs}
 use Prim.Native.Nat.{_≤_, _-_}
 use mathlib.Core.Path.{_≡_}
 use lib.ListN.{length}
-use Rattle.keeper.proofs.input.to_front.Statement.{statement}
-use Rattle.keeper.proofs.input.to_front.Tie as tie
+use Rattle.ask.proofs.input.to_front.Statement.{statement}
+use Rattle.ask.proofs.input.to_front.Tie as tie
 
 abbrev Inv-loop : tie.InvT-loop
 Inv-loop buffer₀ at end n₀ from₀ buffer n from = (n ≤ from) × (n ≤ length buffer₀) × (length buffer ≡ length buffer₀)

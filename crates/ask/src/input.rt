@@ -51,7 +51,7 @@ fn to_front(buffer: &mut [u8], at: usize, end: usize) -> usize
 {
     let mut n: usize = 0;
     let mut from = at;
-    while (n < ask::line::LINE) & (from < end) {
+    while (n < super::line::LINE) & (from < end) {
         if from >= buffer.len() {
             return n;
         }
