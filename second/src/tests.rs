@@ -468,7 +468,7 @@ fn a_save_of_too_many_records() {
 fn choose(group: &Group, side: Side, choice: u32) -> Option<u32> {
     let is_in = group.strip(side, 0).last().is_some_and(|event| event.kind.enters());
     let first = if side == Side::Model { 0 } else { 4 };
-    (choice > 0).then_some(first + 2 * u32::from(is_in) + choice - 1)
+    (choice > 0).then(|| first + 2 * u32::from(is_in) + choice - 1)
 }
 
 #[test]

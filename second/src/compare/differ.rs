@@ -175,8 +175,14 @@ struct ModelsAnswers {
     files: Vec<Option<Vec<u8>>>,
 }
 
-fn models_answers(case: &Case, run: Run, output: &[u8], files: &Folder) -> ModelsAnswers {
-    let expected = expected_of_keeper(case, run);
+/// Which lines of an output are the model's is told by the answers that are expected.
+fn models_answers(
+    case: &Case,
+    run: Run,
+    expected: &Expected,
+    output: &[u8],
+    files: &Folder,
+) -> ModelsAnswers {
     let mut lines = output.split_inclusive(|&byte| byte == b'\n');
     let mut model = ModelsAnswers { commands: Vec::new(), answers: Vec::new(), files: Vec::new() };
     for (line, answer) in case.lines_of(run).zip(&expected.answers) {
@@ -216,7 +222,8 @@ fn pair_difference(case: &Case, programs: &Programs) -> io::Result<Option<Differ
         if let Some(trouble) = got.trouble {
             return Ok(Some(Difference::trouble(format!("keeper {trouble}"))));
         }
-        runs.push(models_answers(case, run, &got.output, &got.files));
+        let expected = expected_of_keeper(case, run);
+        runs.push(models_answers(case, run, &expected, &got.output, &got.files));
     }
     Ok(first_difference_of_runs(&runs[0], &runs[1]))
 }
@@ -230,7 +237,7 @@ pub fn pair_is_sound(case: &Case) -> Result<(), String> {
     }
     let answers = |run| {
         let expected = expected_of_keeper(case, run);
-        models_answers(case, run, &expected.answers.concat(), &expected.files)
+        models_answers(case, run, &expected, &expected.answers.concat(), &expected.files)
     };
     let different = first_difference_of_runs(&answers(Run::Left), &answers(Run::Right));
     different.map_or(Ok(()), |difference| Err(difference.said))

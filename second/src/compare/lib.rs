@@ -73,7 +73,8 @@ struct Options {
     from: u64,
 }
 
-fn main() -> ExitCode {
+/// What the program does: its words and options come from the command line.
+pub fn compare() -> ExitCode {
     match run() {
         Ok(true) => ExitCode::SUCCESS,
         Ok(false) => ExitCode::from(1),
