@@ -4,7 +4,7 @@ use group::CountAnswer;
 use group::ReadAnswer;
 use libc::STDOUT_FILENO;
 
-// The buffer, and its bytes. It is lent as the array that it is: a slice costs its prover twice as much.
+// The buffer. It is lent as the array that it is: a slice would cost the prover twice as much.
 pub const OUT: usize = 65536;
 
 pub type Out = [u8; OUT];
@@ -42,7 +42,7 @@ fn refused(out: &mut Out, at: usize, code: u32) -> usize {
     numbered(out, at, b"refused ", code as u64)
 }
 
-// Such a line, or the refusal of a call that was answered with a code.
+// Such a line where a call was answered with the code 0, and the refusal where it wasn't.
 fn numbered_or(out: &mut Out, at: usize, code: u32, text: &[u8], number: u64) -> usize {
     if code != 0 {
         return refused(out, at, code);
@@ -141,7 +141,7 @@ pub fn usage(out: &mut Out) {
     flush(out, at);
 }
 
-// Why a line can't be taken: the reasons in the order of their numbers, and where each begins and the next one.
+// Why a line can't be taken: the reasons in the order of their numbers, and the edges between them.
 pub fn what(out: &mut Out, at: usize, reason: u32) -> usize {
     let lines = *b"what? line too long
 what? unknown command
@@ -153,9 +153,9 @@ what? buffer too large
 what? file name too long
 ";
     let edges = [0usize, 0, 20, 42, 61, 78, 97, 120, 143, 168];
-    let k = reason as usize;
-    if k > 8 {
+    if reason > ask::LONG_NAME {
         return at;
     }
+    let k = reason as usize;
     text::add(out, at, line::part(&lines, edges[k], edges[k + 1]))
 }

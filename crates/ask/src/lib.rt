@@ -145,7 +145,7 @@ fn of_command(command: Command, bytes: &[u8], line: Line) -> Asked {
 }
 
 // What the line at the front of the bytes asks for.
-pub fn of_line(bytes: &[u8], line: Line) -> Asked {
+fn of_line(bytes: &[u8], line: Line) -> Asked {
     if line.length >= line::LINE {
         return what(LONG_LINE);
     }

@@ -37,8 +37,7 @@ pub fn started() -> Console {
 }
 
 // Hears the line at hand. Where there is none, what was answered is written out, and then more input is waited for.
-pub fn hear(c: Console, buffer: &mut Buffer, out: &Out) -> Console {
-    let mut c = c;
+pub fn hear(mut c: Console, buffer: &mut Buffer, out: &Out) -> Console {
     let input = c.input;
     let heard = ask::hear(input, &*buffer);
     let asked = heard.asked;

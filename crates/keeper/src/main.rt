@@ -10,9 +10,6 @@ use answer::Out;
 use ask::Asked;
 use ask::input;
 use ask::input::Buffer;
-use console::Console;
-use console::Done;
-use group::Answer;
 use group::Group;
 use keep::Bytes;
 use keep::Events;
@@ -50,15 +47,14 @@ fn look(group: Group, asked: Asked, out: &mut Out, at: usize) -> usize {
 // Answers every line up to the end of the input. The group stays in the last call's answer, and that in this one place: a Group goes by value, and every other place would be a copy more for each command.
 // A proved loop has to end, and nothing says that an input does: the loop counts down from a number that no run uses up.
 fn converse(
-    start: Done,
     buffer: &mut Buffer,
     events: &mut Events,
     sheets: &mut Sheets,
     bytes: &mut Bytes,
     out: &mut Out,
 ) {
-    let mut last = start.last;
-    let mut console = start.console;
+    let mut last = Group::fresh(0);
+    let mut console = console::started();
     let mut turns = u64::MAX;
     while turns > 0 {
         turns -= 1;
@@ -111,18 +107,7 @@ fn keep_group(out: &mut Out) {
     let mut events = kept::space();
     let mut sheets = store_space();
     let mut bytes = delivery_space();
-    let start = Done {
-        last: Group::fresh(0),
-        console: console::started(),
-    };
-    converse(
-        start,
-        &mut buffer,
-        &mut events,
-        &mut sheets,
-        &mut bytes,
-        out,
-    );
+    converse(&mut buffer, &mut events, &mut sheets, &mut bytes, out);
 }
 
 fn main() {

@@ -8,6 +8,12 @@ Inv-loop buffer₀ events₀ sheets₀ bytes₀ out₀ last₀ console₀ turns�
 abbrev μ-loop : tie.MeasureT-loop
 μ-loop buffer₀ events₀ sheets₀ bytes₀ out₀ last₀ console₀ turns₀ buffer events sheets bytes out last console turns = turns
 
+fresh-requires : tie.Need-fresh-requires Inv-loop μ-loop
+fresh-requires c κs = search needs
+
+started-requires : tie.Need-started-requires Inv-loop μ-loop
+started-requires c κs = search needs
+
 loop-holds : tie.Need-loop-holds Inv-loop μ-loop
 loop-holds c = search needs
 
@@ -74,6 +80,8 @@ converse-spec =
     (tie.spec
     Inv-loop
     μ-loop
+    fresh-requires
+    started-requires
     loop-holds
     sub-turns
     hear-requires
