@@ -1,20 +1,23 @@
 // Lists who may read what in a book: every model and sheet that the judge grants at the book's last tick, with the moment.
 use formula::Moment;
 use formula::Verdict;
+use report::Book;
+use report::Words;
 use report::page;
+use report::page::Out;
 use report::page::Page;
 use strip::Side;
 
 // The line of a granted pair.
-fn granted(out: &mut [u8], page: Page, model: u32, sheet: u32, moment: &[u8], tick: u32) -> Page {
+fn granted(out: &mut Out, page: Page, model: u32, sheet: u32, moment: &[u8], tick: u32) -> Page {
     let page = page::put(&mut *out, page, b"", model);
-    let page = page::put(&mut *out, page, b" ", sheet);
+    let page = page::spaced(&mut *out, page, sheet);
     let page = page::put(&mut *out, page, moment, tick);
     page::end_counted(out, page)
 }
 
 // The line of a pair that is granted; any other pair is skipped.
-fn pair(out: &mut [u8], page: Page, model: u32, sheet: u32, verdict: Verdict) -> Page {
+fn pair(out: &mut Out, page: Page, model: u32, sheet: u32, verdict: Verdict) -> Page {
     let Verdict::Granted(moment) = verdict else {
         return page;
     };
@@ -26,15 +29,14 @@ fn pair(out: &mut [u8], page: Page, model: u32, sheet: u32, verdict: Verdict) ->
 
 // The lines of one model.
 fn of_model(
-    out: &mut [u8],
-    page: Page,
+    out: &mut Out,
+    mut page: Page,
     model: u32,
     strip: &[u32],
-    strips: &[u32],
+    strips: &Words,
     ends: &[usize; report::ENDS],
     now: u32,
 ) -> Page {
-    let mut page = page;
     for sheet in 0..rules::SHEETS {
         let s = sheet as usize;
         let other = report::part(strips, ends[s], ends[s + 1]);
@@ -45,11 +47,10 @@ fn of_model(
 }
 
 // The lines of all models, by model then sheet.
-fn list_pairs(out: &mut [u8], page: Page, words: &[u32], now: u32) -> Page {
+fn list_pairs(out: &mut Out, mut page: Page, words: &[u32], now: u32) -> Page {
     let mut strips = [0u32; rules::EVENTS];
     let mut ends = [0usize; report::ENDS];
     report::gather_sheets(words, &mut strips, &mut ends);
-    let mut page = page;
     for model in 0..rules::MODELS {
         let mut strip = [0u32; rules::EVENTS];
         let n = gather::gather(words, Side::Model, model, &mut strip, 0);
@@ -67,26 +68,25 @@ fn list_pairs(out: &mut [u8], page: Page, words: &[u32], now: u32) -> Page {
 }
 
 // The listing of a book that was read.
-fn listed(out: &mut [u8], number: u32, ticks: u32, words: &[u32]) -> Page {
-    let page = report::header(&mut *out, number, ticks, words.len());
-    let page = list_pairs(&mut *out, page, words, ticks);
+fn listed(out: &mut Out, book: Book, words: &Words) -> Page {
+    let words = report::part(words, 0, book.records);
+    let page = report::header(&mut *out, book.number, book.ticks, words.len());
+    let page = list_pairs(&mut *out, page, words, book.ticks);
     report::footer(out, page, b"granted ")
 }
 
-fn main() {
+// The listing of the book that standard input has, or its refusal.
+fn listing(out: &mut Out) -> Page {
     let mut words = [0u32; rules::EVENTS];
-    let mut out = [0u8; 65536];
     let book = report::read_book(&mut words);
     if book.code != 0 {
-        let page = report::refused(&mut out, book.code, book.place);
-        page::flush(&out, page);
-        return;
+        return report::refused(out, book.code, book.place);
     }
-    let page = listed(
-        &mut out,
-        book.number,
-        book.ticks,
-        report::part(&words, 0, book.records),
-    );
+    listed(out, book, &words)
+}
+
+fn main() {
+    let mut out = [0u8; page::OUT];
+    let page = listing(&mut out);
     page::flush(&out, page);
 }

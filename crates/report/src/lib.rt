@@ -2,6 +2,7 @@
 pub mod page;
 
 use libc::STDIN_FILENO;
+use page::Out;
 use page::Page;
 use strip::Side;
 
@@ -9,6 +10,9 @@ use strip::Side;
 pub const INPUT: usize = rules::LONGEST_BOOK + 1;
 // One place more than there are sheets: where each sheet's strip ends and the next begins.
 pub const ENDS: usize = 257;
+
+// A list with room for the words of any book.
+pub type Words = [u32; rules::EVENTS];
 
 // What was read: a refusal's number and place, or 0 with the book's group, ticks and records.
 pub struct Book {
@@ -28,7 +32,7 @@ fn records(length: usize) -> usize {
 }
 
 // Reads a book from standard input; its words go to the front of the list.
-pub fn read_book(words: &mut [u32]) -> Book {
+pub fn read_book(words: &mut Words) -> Book {
     let mut input = [0u8; INPUT];
     let length = io::read_full(STDIN_FILENO, &mut input);
     let read = book::read(&input[..length], words);
@@ -42,7 +46,7 @@ pub fn read_book(words: &mut [u32]) -> Book {
 }
 
 // Each sheet's strip, gathered once: one behind the other, with their ends.
-pub fn gather_sheets(words: &[u32], strips: &mut [u32], ends: &mut [usize; ENDS]) {
+pub fn gather_sheets(words: &[u32], strips: &mut Words, ends: &mut [usize; ENDS]) {
     let mut at: usize = 0;
     for sheet in 0..rules::SHEETS {
         at = gather::gather(words, Side::Sheet, sheet, &mut *strips, at);
@@ -62,12 +66,9 @@ pub fn part(list: &[u32], from: usize, to: usize) -> &[u32] {
 }
 
 // "refused 21", or "refused 25 at 1" where there is a place.
-pub fn refused(out: &mut [u8], code: u32, place: u32) -> Page {
+pub fn refused(out: &mut Out, code: u32, place: u32) -> Page {
     let page = page::put(&mut *out, page::empty(), b"refused ", code);
-    if code < rules::BAD_RECORD {
-        return page::end(out, page);
-    }
-    if code > rules::ILL_FORMED {
+    if (code < rules::BAD_RECORD) | (code > rules::ILL_FORMED) {
         return page::end(out, page);
     }
     let page = page::put(&mut *out, page, b" at ", place);
@@ -75,7 +76,7 @@ pub fn refused(out: &mut [u8], code: u32, place: u32) -> Page {
 }
 
 // The first line.
-pub fn header(out: &mut [u8], number: u32, ticks: u32, records: usize) -> Page {
+pub fn header(out: &mut Out, number: u32, ticks: u32, records: usize) -> Page {
     let page = page::put(&mut *out, page::empty(), b"group ", number);
     let page = page::put(&mut *out, page, b" ticks ", ticks);
     let page = page::put(&mut *out, page, b" records ", (records % 4294967296) as u32);
@@ -83,7 +84,7 @@ pub fn header(out: &mut [u8], number: u32, ticks: u32, records: usize) -> Page {
 }
 
 // The last line counts the others.
-pub fn footer(out: &mut [u8], page: Page, name: &[u8]) -> Page {
+pub fn footer(out: &mut Out, page: Page, name: &[u8]) -> Page {
     let page = page::put(&mut *out, page, name, page.lines);
     page::end(out, page)
 }

@@ -1,6 +1,11 @@
 // A page of output: lines gather in a buffer, which is written out when it is nearly full and at the end.
 use libc::STDOUT_FILENO;
 
+// The buffer. It is lent as the array that it is: a slice would cost the prover twice as much.
+pub const OUT: usize = 65536;
+
+pub type Out = [u8; OUT];
+
 pub struct Page {
     // the bytes in the buffer
     pub at: usize,
@@ -16,57 +21,45 @@ pub fn empty() -> Page {
 }
 
 // Writes out what is in the buffer.
-pub fn flush(out: &[u8], page: Page) -> Page {
+pub fn flush(out: &Out, mut page: Page) -> Page {
+    let text = &out[..];
     let at = page.at;
-    if at <= out.len() {
-        io::write_all(STDOUT_FILENO, &out[0..at]);
+    if at <= text.len() {
+        io::write_all(STDOUT_FILENO, &text[0..at]);
     }
-    Page {
-        at: 0,
-        lines: page.lines,
-    }
+    page.at = 0;
+    page
 }
 
 // A page with room for a line.
-fn roomy(out: &[u8], page: Page) -> Page {
-    if out.len() < LINE {
-        return page;
-    }
-    if page.at > out.len() - LINE {
+fn roomy(out: &Out, page: Page) -> Page {
+    if page.at > OUT - LINE {
         return flush(out, page);
     }
     page
 }
 
 // Adds a text and a number.
-pub fn put(out: &mut [u8], page: Page, text: &[u8], number: u32) -> Page {
-    let at = page.at;
-    let at = text::add(&mut *out, at, text);
-    let at = text::add_decimal(&mut *out, at, number as u64);
-    Page {
-        at,
-        lines: page.lines,
-    }
+pub fn put(out: &mut Out, mut page: Page, text: &[u8], number: u32) -> Page {
+    let at = text::add(&mut *out, page.at, text);
+    page.at = text::add_decimal(out, at, number as u64);
+    page
+}
+
+// Adds a number behind a space.
+pub fn spaced(out: &mut Out, page: Page, number: u32) -> Page {
+    put(out, page, b" ", number)
 }
 
 // Ends a line.
-pub fn end(out: &mut [u8], page: Page) -> Page {
-    let at = page.at;
-    let at = text::add(&mut *out, at, b"\n");
-    roomy(
-        out,
-        Page {
-            at,
-            lines: page.lines,
-        },
-    )
+pub fn end(out: &mut Out, mut page: Page) -> Page {
+    page.at = text::add(&mut *out, page.at, b"\n");
+    roomy(out, page)
 }
 
 // Ends a line that is counted.
-pub fn end_counted(out: &mut [u8], page: Page) -> Page {
-    let page = end(out, page);
-    Page {
-        at: page.at,
-        lines: std::num::wrapping_add_u32(page.lines, 1),
-    }
+pub fn end_counted(out: &mut Out, page: Page) -> Page {
+    let mut page = end(out, page);
+    page.lines = std::num::wrapping_add_u32(page.lines, 1);
+    page
 }

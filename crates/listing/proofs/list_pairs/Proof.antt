@@ -1,18 +1,13 @@
 use borrow.Author.Needs.{needs}
 use Prim.Native.Nat.{_≤_, _-_}
-use mathlib.Core.Path.{_≡_}
-use lib.ListN.{length}
 use Rattle.listing.proofs.list_pairs.Statement.{statement}
 use Rattle.listing.proofs.list_pairs.Tie as tie
 
 abbrev Inv-loop : tie.InvT-loop
-Inv-loop out₀ words now strips ends page₀ model₀ out page model = (model ≤ 64) × (length out ≡ length out₀)
+Inv-loop out₀ page₀ words now strips ends model₀ out page model = model ≤ 64
 
 abbrev μ-loop : tie.MeasureT-loop
-μ-loop out₀ words now strips ends page₀ model₀ out page model = 64 - model
-
-slice-aggregate-gather-sheets : tie.Need-slice-aggregate-gather-sheets Inv-loop μ-loop
-slice-aggregate-gather-sheets c = search needs
+μ-loop out₀ page₀ words now strips ends model₀ out page model = 64 - model
 
 gather-sheets-requires : tie.Need-gather-sheets-requires Inv-loop μ-loop
 gather-sheets-requires c κs = search needs
@@ -32,9 +27,6 @@ slice-aggregate-part c = search needs
 part-requires : tie.Need-part-requires Inv-loop μ-loop
 part-requires c κs = search needs
 
-slice-aggregate-of-model : tie.Need-slice-aggregate-of-model Inv-loop μ-loop
-slice-aggregate-of-model c = search needs
-
 of-model-requires : tie.Need-of-model-requires Inv-loop μ-loop
 of-model-requires c κs = search needs
 
@@ -47,9 +39,6 @@ loop-less c = search needs
 loop-again : tie.Need-loop-again Inv-loop μ-loop
 loop-again c = search needs
 
-same-length : tie.Need-same-length Inv-loop μ-loop
-same-length c = search needs
-
 returns : tie.Need-returns Inv-loop μ-loop
 returns c = search needs
 
@@ -59,17 +48,14 @@ list-pairs-spec =
     (tie.spec
     Inv-loop
     μ-loop
-    slice-aggregate-gather-sheets
     gather-sheets-requires
     loop-holds
     slice-aggregate-gather
     gather-requires
     slice-aggregate-part
     part-requires
-    slice-aggregate-of-model
     of-model-requires
     add-model
     loop-less
     loop-again
-    same-length
     returns)

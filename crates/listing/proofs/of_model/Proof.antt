@@ -1,15 +1,13 @@
 use borrow.Author.Needs.{needs}
 use Prim.Native.Nat.{_≤_, _-_}
-use mathlib.Core.Path.{_≡_}
-use lib.ListN.{length}
 use Rattle.listing.proofs.of_model.Statement.{statement}
 use Rattle.listing.proofs.of_model.Tie as tie
 
 abbrev Inv-loop : tie.InvT-loop
-Inv-loop out₀ model strip strips ends now page₀ sheet₀ out page sheet = (sheet ≤ 256) × (length out ≡ length out₀)
+Inv-loop out₀ page₀ model strip strips ends now sheet₀ out page sheet = sheet ≤ 256
 
 abbrev μ-loop : tie.MeasureT-loop
-μ-loop out₀ model strip strips ends now page₀ sheet₀ out page sheet = 256 - sheet
+μ-loop out₀ page₀ model strip strips ends now sheet₀ out page sheet = 256 - sheet
 
 loop-holds : tie.Need-loop-holds Inv-loop μ-loop
 loop-holds c = search needs
@@ -50,9 +48,6 @@ loop-less c = search needs
 loop-again : tie.Need-loop-again Inv-loop μ-loop
 loop-again c = search needs
 
-same-length : tie.Need-same-length Inv-loop μ-loop
-same-length c = search needs
-
 returns : tie.Need-returns Inv-loop μ-loop
 returns c = search needs
 
@@ -75,5 +70,4 @@ of-model-spec =
     add-sheet
     loop-less
     loop-again
-    same-length
     returns)

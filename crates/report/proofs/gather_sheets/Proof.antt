@@ -1,12 +1,10 @@
 use borrow.Author.Needs.{needs}
 use Prim.Native.Nat.{_≤_, _-_}
-use mathlib.Core.Path.{_≡_}
-use lib.ListN.{length}
 use Rattle.report.proofs.gather_sheets.Statement.{statement}
 use Rattle.report.proofs.gather_sheets.Tie as tie
 
 abbrev Inv-loop : tie.InvT-loop
-Inv-loop words strips₀ ends₀ at₀ sheet₀ strips ends at sheet = (sheet ≤ 256) × (length strips ≡ length strips₀)
+Inv-loop words strips₀ ends₀ at₀ sheet₀ strips ends at sheet = sheet ≤ 256
 
 abbrev μ-loop : tie.MeasureT-loop
 μ-loop words strips₀ ends₀ at₀ sheet₀ strips ends at sheet = 256 - sheet
@@ -38,9 +36,6 @@ loop-less c = search needs
 loop-again : tie.Need-loop-again Inv-loop μ-loop
 loop-again c = search needs
 
-same-length : tie.Need-same-length Inv-loop μ-loop
-same-length c = search needs
-
 returns : tie.Need-returns Inv-loop μ-loop
 returns c = search needs
 
@@ -59,5 +54,4 @@ gather-sheets-spec =
     add-sheet
     loop-less
     loop-again
-    same-length
     returns)

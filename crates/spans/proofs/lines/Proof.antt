@@ -1,15 +1,13 @@
 use borrow.Author.Needs.{needs}
 use Prim.Native.Nat.{_≤_, _-_}
-use mathlib.Core.Path.{_≡_}
-use lib.ListN.{length}
 use Rattle.spans.proofs.lines.Statement.{statement}
 use Rattle.spans.proofs.lines.Tie as tie
 
 abbrev Inv-loop : tie.InvT-loop
-Inv-loop out₀ model sheet list count page₀ k₀ k-end out page k = (k ≤ k-end) × (k-end ≤ 2048) × (length out ≡ length out₀)
+Inv-loop out₀ page₀ model sheet list count k₀ k-end out page k = (k ≤ k-end) × (k-end ≤ 2048)
 
 abbrev μ-loop : tie.MeasureT-loop
-μ-loop out₀ model sheet list count page₀ k₀ k-end out page k = k-end - k
+μ-loop out₀ page₀ model sheet list count k₀ k-end out page k = k-end - k
 
 pairs-requires : tie.Need-pairs-requires Inv-loop μ-loop
 pairs-requires c κs = search needs
@@ -50,9 +48,6 @@ loop-less c = search needs
 loop-again : tie.Need-loop-again Inv-loop μ-loop
 loop-again c = search needs
 
-same-length : tie.Need-same-length Inv-loop μ-loop
-same-length c = search needs
-
 returns : tie.Need-returns Inv-loop μ-loop
 returns c = search needs
 
@@ -75,5 +70,4 @@ lines-spec =
     add-k
     loop-less
     loop-again
-    same-length
     returns)

@@ -1,18 +1,13 @@
 use borrow.Author.Needs.{needs}
 use Prim.Native.Nat.{_≤_, _-_}
-use mathlib.Core.Path.{_≡_}
-use lib.ListN.{length}
 use Rattle.spans.proofs.list_spans.Statement.{statement}
 use Rattle.spans.proofs.list_spans.Tie as tie
 
 abbrev Inv-loop : tie.InvT-loop
-Inv-loop out₀ asked words now strips ends list₀ page₀ model₀ model-end out list page model = (length out ≡ length out₀) × (model-end ≤ 64)
+Inv-loop out₀ page₀ asked words now strips ends list₀ model₀ model-end out page list model = model-end ≤ 64
 
 abbrev μ-loop : tie.MeasureT-loop
-μ-loop out₀ asked words now strips ends list₀ page₀ model₀ model-end out list page model = model-end - model
-
-slice-aggregate-gather-sheets : tie.Need-slice-aggregate-gather-sheets Inv-loop μ-loop
-slice-aggregate-gather-sheets c = search needs
+μ-loop out₀ page₀ asked words now strips ends list₀ model₀ model-end out page list model = model-end - model
 
 gather-sheets-requires : tie.Need-gather-sheets-requires Inv-loop μ-loop
 gather-sheets-requires c κs = search needs
@@ -35,9 +30,6 @@ slice-aggregate-part c = search needs
 part-requires : tie.Need-part-requires Inv-loop μ-loop
 part-requires c κs = search needs
 
-slice-aggregate-of-model : tie.Need-slice-aggregate-of-model Inv-loop μ-loop
-slice-aggregate-of-model c = search needs
-
 of-model-requires : tie.Need-of-model-requires Inv-loop μ-loop
 of-model-requires c κs = search needs
 
@@ -50,9 +42,6 @@ loop-less c = search needs
 loop-again : tie.Need-loop-again Inv-loop μ-loop
 loop-again c = search needs
 
-same-length : tie.Need-same-length Inv-loop μ-loop
-same-length c = search needs
-
 returns : tie.Need-returns Inv-loop μ-loop
 returns c = search needs
 
@@ -62,7 +51,6 @@ list-spans-spec =
     (tie.spec
     Inv-loop
     μ-loop
-    slice-aggregate-gather-sheets
     gather-sheets-requires
     within-requires
     loop-holds
@@ -70,10 +58,8 @@ list-spans-spec =
     gather-requires
     slice-aggregate-part
     part-requires
-    slice-aggregate-of-model
     of-model-requires
     add-model
     loop-less
     loop-again
-    same-length
     returns)

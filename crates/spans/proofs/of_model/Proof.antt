@@ -1,15 +1,13 @@
 use borrow.Author.Needs.{needs}
 use Prim.Native.Nat.{_≤_, _-_}
-use mathlib.Core.Path.{_≡_}
-use lib.ListN.{length}
 use Rattle.spans.proofs.of_model.Statement.{statement}
 use Rattle.spans.proofs.of_model.Tie as tie
 
 abbrev Inv-loop : tie.InvT-loop
-Inv-loop out₀ model strip strips ends list₀ now page₀ sheet₀ sheet-end out list page sheet = (length out ≡ length out₀) × (sheet-end ≤ 256)
+Inv-loop out₀ page₀ model strip strips ends list₀ now sheet₀ sheet-end out page list sheet = sheet-end ≤ 256
 
 abbrev μ-loop : tie.MeasureT-loop
-μ-loop out₀ model strip strips ends list₀ now page₀ sheet₀ sheet-end out list page sheet = sheet-end - sheet
+μ-loop out₀ page₀ model strip strips ends list₀ now sheet₀ sheet-end out page list sheet = sheet-end - sheet
 
 within-requires : tie.Need-within-requires Inv-loop μ-loop
 within-requires c κs = search needs
@@ -53,9 +51,6 @@ loop-less c = search needs
 loop-again : tie.Need-loop-again Inv-loop μ-loop
 loop-again c = search needs
 
-same-length : tie.Need-same-length Inv-loop μ-loop
-same-length c = search needs
-
 returns : tie.Need-returns Inv-loop μ-loop
 returns c = search needs
 
@@ -79,5 +74,4 @@ of-model-spec =
     add-sheet
     loop-less
     loop-again
-    same-length
     returns)
