@@ -45,9 +45,10 @@ use Rattle.close.specs.declared.Settled.{Settled}
 use Rattle.judge.specs.Checked as check
 use Rattle.judge.specs.Evidence.{evidenceOf, startOf}
 use Rattle.judge.specs.Judge.{checked, judgedBy, Judges}
-use Rattle.standing.specs.Scan.{headOf, stepOf, holding, toldBy}
+use Rattle.standing.specs.Scan.{stepOf, holding, toldBy}
+use Rattle.stepping.specs.Next.{headOf}
 use Rattle.judge.specs.declared.check.Checked.{Checked}
-use Rattle.standing.specs.declared.Head.{Head}
+use Rattle.stepping.specs.declared.Head.{Head}
 use Rattle.standing.specs.declared.Seen.{Seen}
 use Rattle.standing.specs.declared.Standing.{Standing}
 use Rattle.kept.specs.Inserted.{insertedCount, insertedList}

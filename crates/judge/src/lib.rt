@@ -15,5 +15,5 @@ pub fn judge(m: &[u32], s: &[u32], now: u32) -> Verdict
     }
     let seen = scan::scan(m, s);
     let stands = seen.standing;
-    standing::told(stands)
+    stepping::told(stands)
 }

@@ -21,23 +21,23 @@ pub fn scan(m: &[u32], s: &[u32]) -> Seen
     let mut i: usize = 0;
     let mut j: usize = 0;
     // The heads stand in variables: a turn reads only the strip whose event it takes.
-    let mut a = standing::next_event(m, 0);
-    let mut b = standing::next_event(s, 0);
+    let mut a = stepping::next_event(m, 0);
+    let mut b = stepping::next_event(s, 0);
     while i + j < m.len() + s.len() {
         if a.tick < b.tick {
-            seen = standing::step(seen, a.tick, a.kind, rules::QUIET);
+            seen = stepping::step(seen, a.tick, a.kind, rules::QUIET);
             i += 1;
-            a = standing::next_event(m, i);
+            a = stepping::next_event(m, i);
         } else if b.tick < a.tick {
-            seen = standing::step(seen, b.tick, rules::QUIET, b.kind);
+            seen = stepping::step(seen, b.tick, rules::QUIET, b.kind);
             j += 1;
-            b = standing::next_event(s, j);
+            b = stepping::next_event(s, j);
         } else {
-            seen = standing::step(seen, a.tick, a.kind, b.kind);
+            seen = stepping::step(seen, a.tick, a.kind, b.kind);
             i += 1;
             j += 1;
-            a = standing::next_event(m, i);
-            b = standing::next_event(s, j);
+            a = stepping::next_event(m, i);
+            b = stepping::next_event(s, j);
         }
     }
     seen

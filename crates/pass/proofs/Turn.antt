@@ -10,9 +10,9 @@ use lib.ListN.{length}
 use borrow.Author.Tests.{ltb-true, ltb-false}
 use Rattle.base.proofs.Truth.{either}
 use Rattle.strip.proofs.Places.{tickAt, Rising}
-use Rattle.standing.specs.Scan.{never, headOf}
-use Rattle.standing.specs.declared.Head.{Head}
-use Rattle.standing.proofs.Pass.{Place, place, Passed, Turned, pass-start, model-first, sheet-first, both-first}
+use Rattle.stepping.specs.Next.{never, headOf}
+use Rattle.stepping.specs.declared.Head.{Head}
+use Rattle.stepping.proofs.Pass.{Place, place, Passed, Turned, pass-start, model-first, sheet-first, both-first}
 use Rattle.pass.specs.Pass.{begun, modelTaken, sheetTaken, bothTaken, advanced}
 use Rattle.pass.specs.declared.Pass.{Pass}
 

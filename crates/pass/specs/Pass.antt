@@ -4,8 +4,9 @@ use mathlib.Core.List.{List}
 use Prim.Native.Nat.{ℕ, _+_}
 use lib.Dec.{ltb}
 use Rattle.rules.specs.Kinds.{quiet}
-use Rattle.standing.specs.Scan.{start, stepOf, headOf}
-use Rattle.standing.specs.declared.Head.{Head}
+use Rattle.standing.specs.Scan.{start, stepOf}
+use Rattle.stepping.specs.Next.{headOf}
+use Rattle.stepping.specs.declared.Head.{Head}
 use Rattle.pass.specs.declared.Pass.{Pass}
 
 -- the pass before the first tick

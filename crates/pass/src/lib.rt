@@ -9,8 +9,8 @@ ghost use Rattle.pass.specs.Pass.{begun, advanced};
 pub struct Pass {
     pub i: usize,
     pub j: usize,
-    pub model: standing::Head,
-    pub sheet: standing::Head,
+    pub model: stepping::Head,
+    pub sheet: stepping::Head,
     pub tick: u32,
     pub seen: standing::Seen,
 }
@@ -22,8 +22,8 @@ pub fn begin(m: &[u32], s: &[u32]) -> Pass
     Pass {
         i: 0,
         j: 0,
-        model: standing::next_event(m, 0),
-        sheet: standing::next_event(s, 0),
+        model: stepping::next_event(m, 0),
+        sheet: stepping::next_event(s, 0),
         tick: 0,
         seen: standing::Seen {
             inside: false,
@@ -46,10 +46,10 @@ pub fn advance(m: &[u32], s: &[u32], pass: Pass) -> Pass
         return Pass {
             i,
             j: pass.j,
-            model: standing::next_event(m, i),
+            model: stepping::next_event(m, i),
             sheet,
             tick: model.tick,
-            seen: standing::step(seen, model.tick, model.kind, rules::QUIET),
+            seen: stepping::step(seen, model.tick, model.kind, rules::QUIET),
         };
     }
     if sheet.tick < model.tick {
@@ -58,9 +58,9 @@ pub fn advance(m: &[u32], s: &[u32], pass: Pass) -> Pass
             i: pass.i,
             j,
             model,
-            sheet: standing::next_event(s, j),
+            sheet: stepping::next_event(s, j),
             tick: sheet.tick,
-            seen: standing::step(seen, sheet.tick, rules::QUIET, sheet.kind),
+            seen: stepping::step(seen, sheet.tick, rules::QUIET, sheet.kind),
         };
     }
     let i = pass.i + 1;
@@ -68,9 +68,9 @@ pub fn advance(m: &[u32], s: &[u32], pass: Pass) -> Pass
     Pass {
         i,
         j,
-        model: standing::next_event(m, i),
-        sheet: standing::next_event(s, j),
+        model: stepping::next_event(m, i),
+        sheet: stepping::next_event(s, j),
         tick: model.tick,
-        seen: standing::step(seen, model.tick, model.kind, sheet.kind),
+        seen: stepping::step(seen, model.tick, model.kind, sheet.kind),
     }
 }

@@ -14,7 +14,7 @@ use Rattle.strip.specs.History.{historyOf}
 use Rattle.strip.proofs.Places.{Rising, UpTo}
 use Rattle.standing.specs.Scan.{holding}
 use Rattle.standing.specs.declared.Seen.{Seen}
-use Rattle.standing.proofs.Pass.{Gap, Turned, over-gap, quiet-end}
+use Rattle.stepping.proofs.Pass.{Gap, Turned, over-gap, quiet-end}
 use Rattle.standing.proofs.Tells.{scan-holds}
 use Rattle.pass.specs.Pass.{begun}
 use Rattle.pass.specs.declared.Pass.{Pass}

@@ -26,7 +26,7 @@ fn pairs(m: &[u32], s: &[u32], now: u32, list: &mut [u32]) -> usize
         pass = pass::advance(m, s, pass);
         let seen = pass.seen;
         let standing = seen.standing;
-        spanning = spanning::turn(&mut *list, spanning, pass.tick, standing::holds(standing));
+        spanning = spanning::turn(&mut *list, spanning, pass.tick, stepping::holds(standing));
     }
     let last = spanning::end(list, spanning, now);
     last.count

@@ -1,3 +1,1 @@
--- Laws of how a pair stands.
-pub mod Pass
 pub mod Tells

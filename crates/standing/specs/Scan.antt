@@ -1,11 +1,8 @@
 -- The judge's pass, tick by tick: what the code follows. proofs/Tells.antt shows that it tells the verdict of the formula.
 use Prim.Native.Nat.{ℕ, zero, suc}
 use mathlib.Core.Bool.{Bool, true, false, cond, not, _&&_, _||_}
-use mathlib.Core.List.{List}
-use lib.Dec.{eqb, ltb}
-use lib.ListN.{length, getD}
-use Rattle.rules.specs.Kinds.{LJ, SL, LA, SR, quiet, isJoin, isLeave, isAdd, isRemove}
-use Rattle.event.specs.Word.{tickOf, kindOf}
+use lib.Dec.{eqb}
+use Rattle.rules.specs.Kinds.{LJ, SL, LA, SR, isJoin, isLeave, isAdd, isRemove}
 use Rattle.formula.specs.Formula.{History}
 use Rattle.formula.specs.declared.Verdict.{Verdict}
 use Rattle.formula.specs.declared.Verdict.the-variants.{Granted, Denied}
@@ -14,7 +11,6 @@ use Rattle.formula.specs.declared.Cause.the-variants.{None, StrictLeave, Strict
 use Rattle.standing.specs.declared.Standing.{Standing}
 use Rattle.standing.specs.declared.Standing.the-variants.{Never, ByAdd, ByJoin, Left, Removed}
 use Rattle.standing.specs.declared.Seen.{Seen}
-use Rattle.standing.specs.declared.Head.{Head}
 
 -- a strict event ends a grant and nothing else
 abbrev pub endedBy : Standing → Standing → Standing
@@ -62,10 +58,3 @@ holding (ByAdd t) = true
 holding (ByJoin t) = true
 holding (Left t) = false
 holding (Removed t) = false
-
--- the next event of a strip from place i on; past the end, a tick above any word's
-abbrev pub never : ℕ
-never = 1048576
-
-abbrev pub headOf : List ℕ → ℕ → Head
-headOf s i = cond (ltb i (length s)) (record { tick = tickOf (getD s i 0); kind = kindOf (getD s i 0) }) (record { tick = never; kind = quiet })

@@ -4,8 +4,8 @@ use Prim.Native.Nat.{_+_, _-_, _<_}
 use native.Mathlib.Omega.{arith}
 use lib.ListN.{length}
 use Rattle.strip.proofs.Places.{tickAt}
-use Rattle.standing.specs.Scan.{never, headOf}
-use Rattle.standing.proofs.Pass.{At, pass-start, at-end, by-model, by-sheet, by-both}
+use Rattle.stepping.specs.Next.{never, headOf}
+use Rattle.stepping.proofs.Pass.{At, pass-start, at-end, by-model, by-sheet, by-both}
 use borrow.Author.Needs.{needs}
 use Rattle.judge.proofs.scan.scan.Statement.{statement}
 use Rattle.judge.proofs.scan.scan.Tie as tie

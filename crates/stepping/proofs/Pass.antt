@@ -14,9 +14,10 @@ use Rattle.event.specs.Word.{kindOf}
 use Rattle.formula.specs.Formula.{History}
 use Rattle.strip.specs.History.{historyOf}
 use Rattle.strip.proofs.Places.{tickAt, Rising, UpTo, After, after-start, quiet-till, history-here, after-hit, after-miss}
 use Rattle.standing.specs.declared.Seen.{Seen}
-use Rattle.standing.specs.declared.Head.{Head}
-use Rattle.standing.specs.Scan.{start, stepOf, scanTo, never, headOf}
+use Rattle.standing.specs.Scan.{start, stepOf, scanTo}
+use Rattle.stepping.specs.declared.Head.{Head}
+use Rattle.stepping.specs.Next.{never, headOf}
 
 -- ---- the scan over ticks
 module _ (model sheet : History) where

@@ -1,6 +1,6 @@
 use borrow.Author.Needs.{needs}
-use Rattle.standing.proofs.stands.Statement.{statement}
-use Rattle.standing.proofs.stands.Tie as tie
+use Rattle.stepping.proofs.stands.Statement.{statement}
+use Rattle.stepping.proofs.stands.Tie as tie
 
 returns : tie.Need-returns
 returns c = simp (c .if1 .taken)

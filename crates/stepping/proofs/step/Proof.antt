@@ -1,6 +1,6 @@
 use borrow.Author.Needs.{needs}
-use Rattle.standing.proofs.step.Statement.{statement}
-use Rattle.standing.proofs.step.Tie as tie
+use Rattle.stepping.proofs.step.Statement.{statement}
+use Rattle.stepping.proofs.step.Tie as tie
 
 stands-requires : tie.Need-stands-requires
 stands-requires c κs = search needs

@@ -1,8 +1,8 @@
 use borrow.Author.Tests.{lt-ltb, le-ltb}
 use Rattle.base.proofs.Rules.{answers}
 use borrow.Author.Needs.{needs}
-use Rattle.standing.proofs.next_event.Statement.{statement}
-use Rattle.standing.proofs.next_event.Tie as tie
+use Rattle.stepping.proofs.next_event.Statement.{statement}
+use Rattle.stepping.proofs.next_event.Tie as tie
 
 mul-word : tie.Need-mul-word
 mul-word c = search needs

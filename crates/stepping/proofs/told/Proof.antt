@@ -1,6 +1,6 @@
 use borrow.Author.Needs.{needs}
-use Rattle.standing.proofs.told.Statement.{statement}
-use Rattle.standing.proofs.told.Tie as tie
+use Rattle.stepping.proofs.told.Statement.{statement}
+use Rattle.stepping.proofs.told.Tie as tie
 
 enum-told : tie.Need-enum-told
 enum-told c = search needs
