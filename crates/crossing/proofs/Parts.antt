@@ -13,7 +13,7 @@ use Rattle.base.proofs.Part.{tail}
 use Rattle.formula.specs.declared.Verdict.{Verdict}
 use Rattle.formula.specs.declared.Verdict.the-variants.{Granted, Denied, Refused}
 use Rattle.formula.specs.declared.Moment.the-variants.{Add, Join}
-use Rattle.judge.specs.Evidence.{placeOf, evidenceOf, startOf}
+use Rattle.evidence.specs.Evidence.{placeOf, evidenceOf, startOf}
 use Rattle.tick.specs.Tick.{rising, placeFrom, tickPart, tickStart}
 use Rattle.tick.proofs.Part.{no-part, part-here}
 use Rattle.crossing.specs.declared.part.Part.{Part}

@@ -5,7 +5,7 @@ use lib.ListN.{length}
 use Rattle.formula.specs.declared.Verdict.{Verdict}
 use Rattle.formula.specs.declared.Verdict.the-variants.{Granted, Denied, Refused}
 use Rattle.formula.specs.declared.Moment.the-variants.{Add, Join}
-use Rattle.judge.specs.Evidence.{placeOf}
+use Rattle.evidence.specs.Evidence.{placeOf}
 use Rattle.tick.specs.Tick.{tickPart, tickStart}
 use Rattle.crossing.specs.declared.part.Part.{Part}
 

@@ -18,7 +18,7 @@ pub struct Part {
 pub fn evidence<'a>(m: &'a [u32], s: &'a [u32], now: u32) -> Part
     ensures { λ r. ⌜ r ≡ evidencePart (judgedBy (m .entry .now) (s .entry .now) now) (m .entry .now) (s .entry .now) ⌝ }
 {
-    let part = judge::evidence::evidence(m, s, now);
+    let part = evidence::evidence(m, s, now);
     let count = part.len();
     let Verdict::Granted(moment) = judge::judge(m, s, now) else {
         return Part {

@@ -43,7 +43,7 @@ use Rattle.group.specs.declared.Group.{Group}
 use Rattle.group.specs.declared.ReadAnswer.{ReadAnswer}
 use Rattle.close.specs.declared.Settled.{Settled}
 use Rattle.judge.specs.Checked as check
-use Rattle.judge.specs.Evidence.{evidenceOf, startOf}
+use Rattle.evidence.specs.Evidence.{evidenceOf, startOf}
 use Rattle.judge.specs.Judge.{checked, judgedBy, Judges}
 use Rattle.standing.specs.Scan.{stepOf, holding, toldBy}
 use Rattle.stepping.specs.Next.{headOf}
@@ -99,7 +99,7 @@ pub record PromisesDetermine : Type 0 where
   pub judged : (m s : List ℕ) (now : ℕ) → Once Verdict (λ r. r ≡ judgedFrom m s now)
   -- loader::pack
   pub pack : (v : Verdict) → Once ℕ (λ r. r ≡ packed v)
-  -- judge::evidence::evidence
+  -- evidence::evidence
   pub evidence : (m s : RefT (List ℕ)) (now : ℕ)
       → Once (List ℕ × (ℕ × ℕ)) (λ r. (r .0 ≡ evidenceOf (judgedBy (m .now) (s .now) now) (m .now) (s .now)) × (r .1 ≡ startOf (judgedBy (m .now) (s .now) now) m s))
   -- the check of two strips, and the spans with their list

@@ -24,7 +24,7 @@ use Rattle.strip.specs.declared.Side.{Side}
 use Rattle.strip.specs.declared.Side.the-variants.{Model, Sheet}
 use Rattle.strip.specs.Good.{goodPlace, firstBad}
 use Rattle.strip.specs.History.{historyOf}
-use Rattle.judge.specs.Evidence.{evidenceOf}
+use Rattle.evidence.specs.Evidence.{evidenceOf}
 use Rattle.judge.specs.Judge.{judgedBy}
 use Rattle.wire.proofs.Words.{length-words}
 use Rattle.wire.specs.Words.{wordsIn}

@@ -11,7 +11,7 @@ use Rattle.group.specs.Read.{readAnswer}
 use Rattle.group.specs.Request.{requestAnswer}
 use Rattle.group.specs.declared.Answer.{Answer}
 use Rattle.group.specs.declared.Group.{Group}
-use Rattle.judge.specs.Evidence.{evidenceOf}
+use Rattle.evidence.specs.Evidence.{evidenceOf}
 use Rattle.judge.specs.Judge.{judgedBy}
 use Rattle.span.specs.Answer.{spansAnswer, listAfter}
 use Rattle.station.specs.Mask.{maskAnswer}

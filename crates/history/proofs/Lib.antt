@@ -4,6 +4,7 @@ pub mod Answers
 pub mod Carried
 pub mod Closes
 pub mod Gate
+pub mod Histories
 pub mod Keep
 pub mod Later
 pub mod Requests

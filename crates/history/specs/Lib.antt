@@ -1,3 +1,4 @@
+pub mod Histories
 pub mod Run
 pub mod Strips
 pub mod WellFormed

@@ -1,4 +1,3 @@
 -- Laws of the judge.
 pub mod Checked
-pub mod Histories
 pub mod Promise

@@ -1,4 +1,2 @@
 pub mod Checked
-pub mod Evidence
-pub mod Histories
 pub mod Judge

@@ -1,6 +1,5 @@
 // The history judge: from a model's strip, a sheet's strip and now, whether the formula grants, since which moment or for which cause not.
 pub mod check;
-pub mod evidence;
 pub mod scan;
 
 ghost use Rattle.judge.specs.Judge.{Judges};

@@ -13,7 +13,7 @@ use Rattle.formula.specs.declared.Verdict.{Verdict}
 use Rattle.formula.specs.declared.Verdict.the-variants.{Granted, Denied, Refused}
 use Rattle.formula.specs.declared.Moment.{Moment}
 use Rattle.formula.specs.declared.Moment.the-variants.{Add, Join}
-use Rattle.judge.specs.Evidence.{placeOf, evidenceOf}
+use Rattle.evidence.specs.Evidence.{placeOf, evidenceOf}
 use Rattle.crossing.specs.declared.part.Part.{Part}
 use Rattle.crossing.specs.Part.{modelStrip, sheetStrip, tailPart, evidencePart}
 use borrow.Author.Needs.{needs}

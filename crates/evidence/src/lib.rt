@@ -2,8 +2,8 @@
 ghost use mathlib.Core.Path.{_≡_};
 ghost use Prim.Native.Nat.{_≤_};
 ghost use lib.ListN.{length};
 ghost use Rattle.judge.specs.Judge.{judgedBy};
-ghost use Rattle.judge.specs.Evidence.{placeOf, evidenceOf, startOf};
+ghost use Rattle.evidence.specs.Evidence.{placeOf, evidenceOf, startOf};
 use formula::Moment;
 use formula::Verdict;
 
@@ -26,7 +26,7 @@ pub fn evidence<'a>(m: &'a [u32], s: &'a [u32], now: u32) -> &'a [u32]
     ensures { λ r. ⌜ (r .now ≡ evidenceOf (judgedBy (m .entry .now) (s .entry .now) now) (m .entry .now) (s .entry .now))
         × (r .ptr ≡ startOf (judgedBy (m .entry .now) (s .entry .now) now) (m .entry) (s .entry)) ⌝ }
 {
-    let Verdict::Granted(moment) = crate::judge(m, s, now) else {
+    let Verdict::Granted(moment) = judge::judge(m, s, now) else {
         return &m[0..0];
     };
     match moment {

@@ -11,9 +11,9 @@ use borrow.Author.Count.{below-more}
 use borrow.Author.Tests.{eq-eqb, ne-eqb}
 use Rattle.base.proofs.First.{None, first-is, first-none}
 use Rattle.event.specs.Word.{tickOf}
-use Rattle.judge.specs.Evidence.{placeOf}
-use Rattle.judge.proofs.evidence.place_of.Statement.{statement}
-use Rattle.judge.proofs.evidence.place_of.Tie as tie
+use Rattle.evidence.specs.Evidence.{placeOf}
+use Rattle.evidence.proofs.place_of.Statement.{statement}
+use Rattle.evidence.proofs.place_of.Tie as tie
 
 abbrev has : List ℕ → ℕ → ℕ → Bool
 has s t i = eqb (tickOf (getD s i 0)) t

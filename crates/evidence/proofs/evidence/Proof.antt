@@ -13,10 +13,10 @@ use Rattle.base.proofs.Part.{tail}
 use Rattle.formula.proofs.Verdict as verdict
 use Rattle.formula.specs.declared.Verdict.{Verdict}
 use Rattle.formula.specs.declared.Verdict.the-variants.{Granted, Denied, Refused}
-use Rattle.judge.specs.Evidence.{placeOf, evidenceOf, startOf}
+use Rattle.evidence.specs.Evidence.{placeOf, evidenceOf, startOf}
 use borrow.Author.Needs.{needs}
-use Rattle.judge.proofs.evidence.evidence.Statement.{statement}
-use Rattle.judge.proofs.evidence.evidence.Tie as tie
+use Rattle.evidence.proofs.evidence.Statement.{statement}
+use Rattle.evidence.proofs.evidence.Tie as tie
 
 -- no grant, no evidence: the empty part at the start of the model's strip
 nothing : (v : Verdict) (m s : RefT (List ℕ)) → OneOf (1 ∷ 2 ∷ []) (tagOf verdict.the-type v)

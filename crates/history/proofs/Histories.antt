@@ -8,7 +8,7 @@ use Rattle.formula.specs.Verdict.{latest, earliest, grantedAt, denied, verdict}
 use Rattle.formula.specs.declared.Verdict.{Verdict}
 use Rattle.strip.specs.Good.{tickBefore, goodPlace, firstBad}
 use Rattle.strip.specs.History.{historyOf}
-use Rattle.judge.specs.Histories.{Row, histories, asked}
+use Rattle.history.specs.Histories.{Row, histories, asked}
 
 pub histories-judged : map asked histories ≡ map (λ (r : Row). r .says) histories
 unfolding histories first since inside liberal byAdd byJoin grant latest earliest grantedAt denied verdict tickBefore goodPlace firstBad historyOf
