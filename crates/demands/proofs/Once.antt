@@ -123,9 +123,9 @@ pub record PromisesDetermine : Type 0 where
   -- book::write, ferrulebee_book_write
   pub writer : (T n : ℕ) (ws buffer : List ℕ)
       → Once (BookWritten × List ℕ) (λ r. (r .0 ≡ bookWritten T n ws (length buffer)) × (r .1 ≡ bufferWritten T n ws buffer))
-  -- format::header::header_refusal
+  -- format::header_refusal
   pub header-refusal : (b : List ℕ) (words : ℕ) → Once ℕ (λ r. r ≡ headerRefusal b words)
-  -- format::header::room_refusal
+  -- format::room_refusal
   pub room-refusal : (T n count long : ℕ) → Once ℕ (λ r. r ≡ roomRefusal T n count long)
   -- tick::tick_part
   pub tick-part : (ws : RefT (List ℕ)) (t : ℕ)

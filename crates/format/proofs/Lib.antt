@@ -1,3 +1,2 @@
 -- What the proofs of other crates cite.
 pub mod Range
-pub mod Written
