@@ -2,4 +2,3 @@
 pub mod Bit
 pub mod Next
 pub mod Ones
-pub mod Set

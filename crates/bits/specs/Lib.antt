@@ -1,3 +1,2 @@
 pub mod Bit
 pub mod Granted
-pub mod Set

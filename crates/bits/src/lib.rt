@@ -1,10 +1,9 @@
-// Bits of words, and sets of numbers below 256 kept as four words.
+// Bits of words.
 ghost use mathlib.Core.Path.{_≡_};
 ghost use mathlib.Core.Bool.{true, cond};
 ghost use Prim.Native.Nat.{_<_};
 ghost use Rattle.base.specs.HowMany.{howMany};
 ghost use Rattle.bits.specs.Bit.{width, bit, nextBit, withBit, afterWord};
-ghost use Rattle.bits.specs.Set.{has, with, either, after};
 
 // How many bits a word has.
 pub const WIDTH: u32 = 64;
@@ -55,42 +54,4 @@ pub fn count(word: u64) -> u32
     ensures { λ r. ⌜ r ≡ howMany (bit word) width ⌝ }
 {
     u64::count_ones(word)
-}
-
-pub fn set_has(words: [u64; 4], number: u32) -> bool
-    requires { ⌜ number < 256 ⌝ }
-    ensures { λ r. ⌜ r ≡ has words number ⌝ }
-{
-    let k = (number / WIDTH) as usize;
-    has_bit(words[k], number % WIDTH)
-}
-
-pub fn set_with(words: [u64; 4], number: u32) -> [u64; 4]
-    requires { ⌜ number < 256 ⌝ }
-    ensures { λ r. ⌜ r ≡ with words number ⌝ }
-{
-    let k = (number / WIDTH) as usize;
-    let mut out = words;
-    out[k] = with_bit(out[k], number % WIDTH);
-    out
-}
-
-pub fn set_either(a: [u64; 4], b: [u64; 4]) -> [u64; 4]
-    ensures { λ r. ⌜ r ≡ either 4 a b ⌝ }
-{
-    let mut out = a;
-    for k in 0..4usize {
-        out[k] = out[k] | b[k];
-    }
-    out
-}
-
-pub fn set_after(was: [u64; 4], gone: [u64; 4], come: [u64; 4]) -> [u64; 4]
-    ensures { λ r. ⌜ r ≡ after 4 was gone come ⌝ }
-{
-    let mut out = was;
-    for k in 0..4usize {
-        out[k] = after_word(out[k], gone[k], come[k]);
-    }
-    out
 }

@@ -26,13 +26,13 @@ pub fn settle(group: Group) -> Settled
     let lr = group.lr;
     let was_added = group.added;
     let was_liberal = group.liberal;
-    let removes = bits::set_either(sr, lr);
-    let adds = bits::set_either(sa, la);
+    let removes = sets::either(sr, lr);
+    let adds = sets::either(sa, la);
     Settled {
         members: bits::after_word(group.members, group.sl | group.ll, group.sj | group.lj),
         adds,
-        added: bits::set_after(was_added, removes, adds),
-        liberal: bits::set_after(was_liberal, removes, la),
+        added: sets::after(was_added, removes, adds),
+        liberal: sets::after(was_liberal, removes, la),
     }
 }
 

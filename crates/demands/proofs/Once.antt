@@ -9,7 +9,7 @@ use denote.Ref.{RefT}
 use Rattle.base.specs.HowMany.{howMany}
 use Rattle.base.specs.Part.{wordAt}
 use Rattle.bits.specs.Bit.{width, bit, nextBit, afterWord}
-use Rattle.bits.specs.Set.{either, after}
+use Rattle.sets.specs.Set.{either, after}
 use Rattle.book.specs.Read.{bookRead, listRead}
 use Rattle.tick.specs.Tick.{tickPart, tickStart, rising, placeFrom}
 use Rattle.book.specs.Write.{bookWritten, bufferWritten}
@@ -159,9 +159,9 @@ pub record PromisesDetermine : Type 0 where
   pub choose : (when : Bool) (a b : ℕ) → Once ℕ (λ r. r ≡ cond when a b)
   -- bits::count
   pub count-bits : (w : ℕ) → Once ℕ (λ r. r ≡ howMany (bit w) width)
-  -- bits::set_either
+  -- sets::either
   pub set-either : (xs ys : List ℕ) → Once (List ℕ) (λ r. r ≡ either 4 xs ys)
-  -- bits::set_after
+  -- sets::after
   pub set-after : (was gone come : List ℕ) → Once (List ℕ) (λ r. r ≡ after 4 was gone come)
   -- request::carriers_of
   pub carriers-of : (kind : ℕ) → Once ℕ (λ r. r ≡ carriers kind)

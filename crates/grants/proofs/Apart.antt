@@ -17,7 +17,7 @@ use Rattle.base.proofs.Truth.{either, neither}
 use Rattle.base.proofs.Table.{length-table, getD-table, table-ext}
 use Rattle.rules.specs.Ranges.{sheets}
 use Rattle.bits.specs.Bit.{width, bit, nextBit}
-use Rattle.bits.specs.Set.{has}
+use Rattle.sets.specs.Set.{has}
 use Rattle.bits.proofs.Bit.{bit-or}
 use Rattle.bits.proofs.Next.{next-le, next-from, next-unset}
 use Rattle.grants.specs.Words.{Sized, closedWord, closedWords}

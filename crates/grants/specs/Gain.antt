@@ -8,7 +8,7 @@ use lib.ListN.{getD}
 use Rattle.base.specs.Table.{table}
 use Rattle.rules.specs.Ranges.{sheets}
 use Rattle.bits.specs.Bit.{width}
-use Rattle.bits.specs.Set.{has}
+use Rattle.sets.specs.Set.{has}
 
 unfoldable pub lostWords : List ℕ → ℕ → List ℕ
 lostWords words sl = table sheets (λ s. bitAnd (getD words s 0) ((2 ^ width - 1) - sl))

@@ -8,7 +8,7 @@ use lib.ListN.{length, getD}
 use Rattle.base.specs.Table.{table}
 use Rattle.rules.specs.Ranges.{sheets}
 use Rattle.bits.specs.Bit.{width}
-use Rattle.bits.specs.Set.{Words, has}
+use Rattle.sets.specs.Set.{Words, has}
 
 -- n words
 pub record Sized (n : ℕ) (ws : List ℕ) : Type 0 where

@@ -6,9 +6,9 @@ use Prim.Native.Nat.{ℕ, zero, suc, _≤_}
 use native.Mathlib.Omega.{arith}
 use Rattle.rules.specs.Kinds.{LR}
 use Rattle.bits.specs.Bit.{bit}
-use Rattle.bits.specs.Set.{none, has}
+use Rattle.sets.specs.Set.{none, has}
 use Rattle.bits.proofs.Bit.{bit-zero}
-use Rattle.bits.proofs.Set.{has-none}
+use Rattle.sets.proofs.Set.{has-none}
 use Rattle.group.proofs.Cases.{each-kind}
 use Rattle.group.specs.Carrier.{sheetWords}
 use Rattle.group.specs.Close.{closedGroup}

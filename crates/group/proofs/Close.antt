@@ -13,9 +13,9 @@ use Rattle.base.proofs.Table.{getD-table}
 use Rattle.rules.specs.Kinds.{SJ, LJ, SL, LL, SA, LA, SR, LR}
 use Rattle.rules.specs.Ranges.{sheets, ticks}
 use Rattle.bits.specs.Bit.{width, bit, bitIn}
-use Rattle.bits.specs.Set.{has, Words}
+use Rattle.sets.specs.Set.{has, Words}
 use Rattle.bits.proofs.Bit.{bit-zero, bit-or, bit-and-not, bit-after}
-use Rattle.bits.proofs.Set.{has-either, has-after, words-either}
+use Rattle.sets.proofs.Set.{has-either, has-after, words-either}
 use Rattle.group.specs.Carrier.{sheetWords}
 use Rattle.group.specs.Close.{closedMembers, removes, adds, closedAdded, closedLiberal, closedGroup, closeAnswer}
 use Rattle.grants.specs.Words.{closedWord, closedWords}

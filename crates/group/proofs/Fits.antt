@@ -14,9 +14,9 @@ use Rattle.base.proofs.Table.{length-table}
 use Rattle.rules.specs.Kinds.{SJ, LJ, SL, LL, SA, LA, SR, LR}
 use Rattle.rules.specs.Ranges.{models, sheets, groups, ticks}
 use Rattle.bits.specs.Bit.{width}
-use Rattle.bits.specs.Set.{none}
+use Rattle.sets.specs.Set.{none}
 use Rattle.bits.proofs.Bit.{with-lt, and-lt, after-lt}
-use Rattle.bits.proofs.Set.{length-with, words-with, words-none, words-table, words-either, length-after, words-after}
+use Rattle.sets.proofs.Set.{length-with, words-with, words-none, words-table, words-either, length-after, words-after}
 use Rattle.group.specs.Carrier.{ofModel, carriers, sheetWords}
 use Rattle.group.specs.Close.{closedMembers, removes, adds, closedAdded, closedLiberal, closedGroup, closeAnswer}
 use Rattle.grants.specs.Words.{closedWord, closedWords, Sized}

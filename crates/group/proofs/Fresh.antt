@@ -5,7 +5,7 @@ use Prim.Native.Nat.{ℕ}
 use Rattle.rules.specs.Ranges.{sheets}
 use Rattle.bits.specs.Bit.{bit, bitIn}
 use Rattle.bits.proofs.Bit.{bit-zero}
-use Rattle.bits.proofs.Set.{getD-none, has-none}
+use Rattle.sets.proofs.Set.{getD-none, has-none}
 use Rattle.group.specs.Carrier.{sheetWords}
 use Rattle.group.specs.Fresh.{freshGroup}
 use Rattle.group.specs.Marks.{modelIn, sheetIn, sheetInByLA}

@@ -13,9 +13,9 @@ use Rattle.base.proofs.Table.{length-table, getD-table}
 use Rattle.rules.specs.Kinds.{SJ, LJ, SL, LL, SA, LA, SR, LR}
 use Rattle.rules.specs.Ranges.{sheets}
 use Rattle.bits.specs.Bit.{width, bit, afterWord}
-use Rattle.bits.specs.Set.{none, has, either, after}
+use Rattle.sets.specs.Set.{none, has, either, after}
 use Rattle.bits.proofs.Bit.{bit-zero, bit-ext}
-use Rattle.bits.proofs.Set.{bit-has, has-none, words-none}
+use Rattle.sets.proofs.Set.{bit-has, has-none, words-none}
 use Rattle.group.specs.Carrier.{sheetWords}
 use Rattle.group.specs.Close.{closedMembers, adds, closedAdded, closedLiberal, closedGroup}
 use Rattle.grants.specs.Words.{closedWord, closedWords, Sized}

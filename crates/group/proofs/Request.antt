@@ -12,9 +12,9 @@ use Rattle.base.proofs.Truth.{either}
 use Rattle.rules.specs.Kinds.{SJ, LJ, SL, LL, SA, LA, SR, LR}
 use Rattle.rules.specs.Ranges.{sheets}
 use Rattle.bits.specs.Bit.{width, bit}
-use Rattle.bits.specs.Set.{has}
+use Rattle.sets.specs.Set.{has}
 use Rattle.bits.proofs.Bit.{bit-with}
-use Rattle.bits.proofs.Set.{has-with}
+use Rattle.sets.proofs.Set.{has-with}
 use Rattle.group.specs.Accepted.{RequestAccepted}
 use Rattle.group.proofs.Cases.{each-kind}
 use Rattle.group.specs.Carrier.{carriers, sheetWords}

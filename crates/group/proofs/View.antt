@@ -14,7 +14,7 @@ use Rattle.base.proofs.Table.{getD-table, table-ext}
 use Rattle.rules.specs.Kinds.{SA, LA, SR, LR}
 use Rattle.rules.specs.Ranges.{sheets, ticks}
 use Rattle.rules.specs.Refusals.{noTickLeft}
-use Rattle.bits.specs.Set.{none}
+use Rattle.sets.specs.Set.{none}
 use Rattle.bits.specs.Bit.{bitIn}
 use Rattle.bits.proofs.Bit.{bit-zero}
 use Rattle.group.specs.Carrier.{ofModel, sheetWords}

@@ -4,7 +4,7 @@ use Prim.Native.Nat.{ℕ}
 use lib.Dec.{leb}
 use Rattle.rules.specs.Ranges.{sheets, groups}
 use Rattle.rules.specs.Refusals.{badGroup}
-use Rattle.bits.specs.Set.{none}
+use Rattle.sets.specs.Set.{none}
 use Rattle.group.specs.Carrier.{sheetWords}
 use Rattle.group.specs.declared.Group.{Group}
 use Rattle.group.specs.declared.Answer.{Answer}

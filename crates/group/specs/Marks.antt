@@ -4,7 +4,7 @@ use Prim.Native.Nat.{ℕ}
 use lib.Dec.{eqb}
 use Rattle.rules.specs.Kinds.{SJ, LJ, SL, LL, SA, LA, SR, LR}
 use Rattle.bits.specs.Bit.{bit}
-use Rattle.bits.specs.Set.{has}
+use Rattle.sets.specs.Set.{has}
 use Rattle.group.specs.Carrier.{ofModel}
 use Rattle.group.specs.declared.Group.{Group}
 

@@ -7,7 +7,7 @@ use Rattle.rules.specs.Kinds.{SJ, LJ, SL, LL, SA, LA, SR, LR}
 use Rattle.rules.specs.Ranges.{ticks}
 use Rattle.rules.specs.Refusals.{badKind, badNumber, noTickLeft, secondEvent, alreadyIn, notIn}
 use Rattle.bits.specs.Bit.{withBit}
-use Rattle.bits.specs.Set.{with}
+use Rattle.sets.specs.Set.{with}
 use Rattle.group.specs.Carrier.{carriers, entering}
 use Rattle.group.specs.Marks.{carrierMarked, carrierIn}
 use Rattle.group.specs.declared.Group.{Group}

@@ -9,7 +9,7 @@ use Rattle.base.specs.Table.{table}
 use Rattle.rules.specs.Kinds.{SJ, LJ, SL, LL, SA, LA, SR, LR}
 use Rattle.rules.specs.Ranges.{models, sheets, ticks}
 use Rattle.rules.specs.Refusals.{badKind, badNumber, noTickLeft, secondEvent, alreadyIn, notIn}
-use Rattle.bits.specs.Set.{none, has, either, after}
+use Rattle.sets.specs.Set.{none, has, either, after}
 use Rattle.group.specs.Carrier.{ofModel, carriers, entering, sheetWords}
 use Rattle.group.specs.Marks.{mark, modelIn}
 use Rattle.bits.specs.Granted.{granted}

@@ -4,7 +4,7 @@ ghost use mathlib.Core.Bool.{true, cond};
 ghost use Prim.Native.Nat.{_<_};
 ghost use Rattle.rules.specs.Ranges.{models, sheets};
 ghost use Rattle.bits.specs.Bit.{withBit};
-ghost use Rattle.bits.specs.Set.{with};
+ghost use Rattle.sets.specs.Set.{with};
 ghost use Rattle.group.specs.Carrier.{carriers, entering};
 ghost use Rattle.group.specs.Marks.{modelMarked, sheetMarked, carrierMarked, carrierIn};
 ghost use Rattle.group.specs.Request.{requestRefusal, markedGroup, requestAnswer};
@@ -59,7 +59,7 @@ pub fn mark_set(words: [u64; 4], when: bool, sheet: u32) -> [u64; 4]
     ensures { λ r. ⌜ r ≡ cond when (with words sheet) words ⌝ }
 {
     if when {
-        bits::set_with(words, sheet)
+        sets::with(words, sheet)
     } else {
         words
     }
@@ -83,10 +83,7 @@ fn sheet_marked(group: Group, sheet: u32) -> bool
     let la = group.la;
     let sr = group.sr;
     let lr = group.lr;
-    bits::set_has(sa, sheet)
-        | bits::set_has(la, sheet)
-        | bits::set_has(sr, sheet)
-        | bits::set_has(lr, sheet)
+    sets::has(sa, sheet) | sets::has(la, sheet) | sets::has(sr, sheet) | sets::has(lr, sheet)
 }
 
 // The carrier of a kind has an event in the open tick.
@@ -110,7 +107,7 @@ fn carrier_in(group: Group, kind: u32, number: u32) -> bool
         return bits::has_bit(group.members, number);
     }
     let added = group.added;
-    bits::set_has(added, number)
+    sets::has(added, number)
 }
 
 // The order of the refusals; 0 is none.

@@ -4,39 +4,39 @@ use borrow.Author.Needs.{needs}
 use Rattle.close.proofs.settle.Statement.{statement}
 use Rattle.close.proofs.settle.Tie as tie
 
-set-either-requires : tie.Need-set-either-requires
-set-either-requires c κs = search needs
+either-requires : tie.Need-either-requires
+either-requires c κs = search needs
 
-set-either-requires-2 : tie.Need-set-either-requires-2
-set-either-requires-2 c κs = search needs
+either-requires-2 : tie.Need-either-requires-2
+either-requires-2 c κs = search needs
 
 after-word-requires : tie.Need-after-word-requires
 after-word-requires c κs = search needs
 
-set-after-requires : tie.Need-set-after-requires
-set-after-requires c κs = search needs
+after-requires : tie.Need-after-requires
+after-requires c κs = search needs
 
-set-after-requires-2 : tie.Need-set-after-requires-2
-set-after-requires-2 c κs = search needs
+after-requires-2 : tie.Need-after-requires-2
+after-requires-2 c κs = search needs
 
 returns : tie.Need-returns
 unfolding closedMembers closedAdded closedLiberal
 returns c =
     simp (
-      c .set-after2 .ensures,
-      c .before .set-after .ensures,
+      c .after2 .ensures,
+      c .before .after .ensures,
       c .before .before .after-word .ensures,
-      c .before .before .before .before .before .set-either2 .ensures,
-      c .before .before .before .before .before .before .set-either .ensures,
+      c .before .before .before .before .before .either2 .ensures,
+      c .before .before .before .before .before .before .either .ensures,
     )
 
 pub settle-spec : {M : Type 1} → statement M
 settle-spec =
     tie.close
     (tie.spec
-    set-either-requires
-    set-either-requires-2
+    either-requires
+    either-requires-2
     after-word-requires
-    set-after-requires
-    set-after-requires-2
+    after-requires
+    after-requires-2
     returns)

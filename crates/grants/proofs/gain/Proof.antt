@@ -6,9 +6,9 @@ use native.Mathlib.Omega.{arith}
 use Rattle.base.proofs.Front.{front, front-none, turn, last}
 use Rattle.rules.specs.Ranges.{sheets}
 use Rattle.bits.specs.Bit.{width, nextBit}
-use Rattle.bits.specs.Set.{has}
+use Rattle.sets.specs.Set.{has}
 use Rattle.bits.proofs.Next.{next-le, next-from}
-use Rattle.bits.proofs.Set.{bit-has}
+use Rattle.sets.proofs.Set.{bit-has}
 use Rattle.grants.specs.Gain.{gainedWord, gainedWords}
 use Rattle.grants.proofs.Apart.{unchanged-between}
 use borrow.Author.Needs.{needs}

@@ -14,9 +14,9 @@ use borrow.Author.Tests.{eq-eqb, ne-eqb, eqb-true, eqb-false, ltb-true, ltb-fals
 use Rattle.base.specs.Table.{table}
 use Rattle.base.proofs.Truth.{either as truth}
 use Rattle.base.proofs.Table.{length-table, getD-table}
 use Rattle.bits.specs.Bit.{width, bit, withBit, afterWord}
-use Rattle.bits.specs.Set.{none, has, with, either, after, Words}
+use Rattle.sets.specs.Set.{none, has, with, either, after, Words}
 use Rattle.bits.proofs.Bit.{bit-zero, bit-or, bit-with, with-lt, bit-after, after-lt}
 
 place-lt : (i : ℕ) → i % width < width
 place-lt i = mod-lt i (zero-lt-suc 63)

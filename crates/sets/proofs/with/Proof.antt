@@ -1,8 +1,8 @@
--- `bits::set_with` meets its contract.
-use Rattle.bits.specs.Set.{with}
+-- `sets::with` meets its contract.
+use Rattle.sets.specs.Set.{with}
 use borrow.Author.Needs.{needs}
-use Rattle.bits.proofs.set_with.Statement.{statement}
-use Rattle.bits.proofs.set_with.Tie as tie
+use Rattle.sets.proofs.with.Statement.{statement}
+use Rattle.sets.proofs.with.Tie as tie
 
 cast-k : tie.Need-cast-k
 cast-k c = search needs
@@ -26,8 +26,8 @@ returns : tie.Need-returns
 unfolding with
 returns c = simp (c .with-bit .ensures)
 
-pub set-with-spec : {M : Type 1} → statement M
-set-with-spec =
+pub with-spec : {M : Type 1} → statement M
+with-spec =
     tie.close
     (tie.spec
     cast-k

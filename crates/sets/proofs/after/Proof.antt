@@ -1,14 +1,14 @@
--- `bits::set_after` meets its contract: a pass over the words, the first k of which are those after the tick.
+-- `sets::after` meets its contract: a pass over the words, the first k of which are those after the tick.
 use mathlib.Core.Path.{_≡_, sym}
 use Prim.Native.Nat.{_-_, _≤_}
 use native.Mathlib.Omega.{arith}
 use lib.ListN.{length, getD}
 use Rattle.base.proofs.Front.{front, front-none, turn, last}
 use Rattle.bits.specs.Bit.{afterWord}
-use Rattle.bits.specs.Set.{after}
+use Rattle.sets.specs.Set.{after}
 use borrow.Author.Needs.{needs}
-use Rattle.bits.proofs.set_after.Statement.{statement}
-use Rattle.bits.proofs.set_after.Tie as tie
+use Rattle.sets.proofs.after.Statement.{statement}
+use Rattle.sets.proofs.after.Tie as tie
 
 abbrev Inv-loop : tie.InvT-loop
 Inv-loop gone come out₀ k₀ out k = (k ≤ 4) × (out ≡ front (after 4 out₀ gone come) out₀ k)
@@ -66,8 +66,8 @@ returns c =
     let h : length was ≡ 4 = search needs in
     last 4 (c .before .loop .k) _ was (c .before .loop .out) h (omega arith) (c .before .loop .inv .1)
 
-pub set-after-spec : {M : Type 1} → statement M
-set-after-spec =
+pub after-spec : {M : Type 1} → statement M
+after-spec =
     tie.close
     (tie.spec
     Inv-loop

@@ -1,14 +1,14 @@
--- `bits::set_either` meets its contract: a pass over the words, the first k of which are joined.
+-- `sets::either` meets its contract: a pass over the words, the first k of which are joined.
 use mathlib.Core.Path.{_≡_, refl, sym}
 use Prim.Native.Nat.{_-_, _≤_}
 use native.Mathlib.Omega.{arith}
 use lib.ListN.{length, getD}
 use lib.Bits.{bitOr}
 use Rattle.base.proofs.Front.{front, front-none, turn, last}
-use Rattle.bits.specs.Set.{either}
+use Rattle.sets.specs.Set.{either}
 use borrow.Author.Needs.{needs}
-use Rattle.bits.proofs.set_either.Statement.{statement}
-use Rattle.bits.proofs.set_either.Tie as tie
+use Rattle.sets.proofs.either.Statement.{statement}
+use Rattle.sets.proofs.either.Tie as tie
 
 abbrev Inv-loop : tie.InvT-loop
 Inv-loop b out₀ k₀ out k = (k ≤ 4) × (out ≡ front (either 4 out₀ b) out₀ k)
@@ -57,8 +57,8 @@ returns c =
     let h : length a ≡ 4 = search needs in
     last 4 (c .before .loop .k) _ a (c .before .loop .out) h (omega arith) (c .before .loop .inv .1)
 
-pub set-either-spec : {M : Type 1} → statement M
-set-either-spec =
+pub either-spec : {M : Type 1} → statement M
+either-spec =
     tie.close
     (tie.spec
     Inv-loop

@@ -1,8 +1,8 @@
--- `bits::set_has` meets its contract.
-use Rattle.bits.specs.Set.{has}
+-- `sets::has` meets its contract.
+use Rattle.sets.specs.Set.{has}
 use borrow.Author.Needs.{needs}
-use Rattle.bits.proofs.set_has.Statement.{statement}
-use Rattle.bits.proofs.set_has.Tie as tie
+use Rattle.sets.proofs.has.Statement.{statement}
+use Rattle.sets.proofs.has.Tie as tie
 
 cast-k : tie.Need-cast-k
 cast-k c = search needs
@@ -20,5 +20,5 @@ returns : tie.Need-returns
 unfolding has
 returns c = c .has-bit .ensures
 
-pub set-has-spec : {M : Type 1} → statement M
-set-has-spec = tie.close (tie.spec cast-k mul-has-bit array-read-has-bit has-bit-requires returns)
+pub has-spec : {M : Type 1} → statement M
+has-spec = tie.close (tie.spec cast-k mul-has-bit array-read-has-bit has-bit-requires returns)
