@@ -15,7 +15,7 @@ pub fn deliver(grants: &[u64; 256], model: u32, store: &[u8], out: &mut [u8]) ->
     if !store::good_store(store) {
         return Delivery::Refused(rules::BAD_STORE, 0);
     }
-    let seen = super::check::check(grants, model, store);
+    let seen = look::check(grants, model, store);
     let stop = seen.stop;
     if stop < rules::SHEETS {
         return Delivery::Refused(store::entry_fault(store, stop), stop);

@@ -1,5 +1,4 @@
 // Deliveries to a model: by grants (`granted`), and from one group, by its grants as of its last close. The group stays as it is.
-mod check;
 pub mod granted;
 
 ghost use mathlib.Core.Path.{_≡_};

@@ -13,9 +13,9 @@ use Rattle.store.specs.Entry.{entryFault}
 use Rattle.parts.specs.Granted.{grantedBelow}
 use Rattle.parts.specs.Fault.{faulty, firstFaulty}
 use Rattle.parts.specs.Delivery.{grantedSheets, deliveryLength}
-use Rattle.delivery.specs.declared.check.Checked.{Checked}
+use Rattle.look.specs.declared.Checked.{Checked}
 use Rattle.delivery.specs.declared.Delivery.the-variants.{Delivered, Refused}
-use Rattle.delivery.specs.Checked.{checked}
+use Rattle.look.specs.Look.{checked}
 use Rattle.delivery.proofs.Answer.{promised, answer-number, answer-store, answer-sheet, answer-long, answer-delivered}
 use borrow.Author.Needs.{needs}
 use Rattle.delivery.proofs.granted.deliver.Statement.{statement}

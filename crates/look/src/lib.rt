@@ -4,7 +4,7 @@ ghost use mathlib.Core.Bool.{true};
 ghost use Prim.Native.Nat.{_^_, _<_};
 ghost use Rattle.rules.specs.Ranges.{models};
 ghost use Rattle.store.specs.Store.{goodStore};
-ghost use Rattle.delivery.specs.Checked.{checked};
+ghost use Rattle.look.specs.Look.{checked};
 
 pub struct Checked {
     // the first faulty sheet; 256 where there is none

@@ -13,10 +13,10 @@ use Rattle.store.proofs.Store.{Good, good}
 use Rattle.store.proofs.Entry.{sound}
 use Rattle.parts.specs.Fault.{firstFaulty}
 use Rattle.parts.proofs.Sums.{Sums, sums-none, sums-out, sums-in, sums-stop, sums-end}
-use Rattle.delivery.specs.declared.check.Checked.{Checked}
-use Rattle.delivery.specs.Checked.{checkedTo, checked}
-use Rattle.delivery.proofs.check.check.Statement.{statement}
-use Rattle.delivery.proofs.check.check.Tie as tie
+use Rattle.look.specs.declared.Checked.{Checked}
+use Rattle.look.specs.Look.{checkedTo, checked}
+use Rattle.look.proofs.check.Statement.{statement}
+use Rattle.look.proofs.check.Tie as tie
 
 abbrev Inv-loop : tie.InvT-loop
 Inv-loop grants model store count₀ total₀ sheet₀ count total sheet = (sheet ≤ 256) × Sums grants model store sheet count total

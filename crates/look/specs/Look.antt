@@ -5,7 +5,7 @@ use lib.ListN.{length}
 use Rattle.parts.specs.Granted.{grantedBelow}
 use Rattle.parts.specs.Fault.{firstFaulty}
 use Rattle.parts.specs.Delivery.{deliveryLength}
-use Rattle.delivery.specs.declared.check.Checked.{Checked}
+use Rattle.look.specs.declared.Checked.{Checked}
 
 -- up to sheet `stop`: how many granted sheets stand before it, and how long their delivery is
 abbrev pub checkedTo : List ℕ → ℕ → List ℕ → ℕ → Checked
