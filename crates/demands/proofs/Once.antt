@@ -163,9 +163,9 @@ pub record PromisesDetermine : Type 0 where
   pub set-either : (xs ys : List ℕ) → Once (List ℕ) (λ r. r ≡ either 4 xs ys)
   -- sets::after
   pub set-after : (was gone come : List ℕ) → Once (List ℕ) (λ r. r ≡ after 4 was gone come)
-  -- request::carriers_of
+  -- refusal::carriers_of
   pub carriers-of : (kind : ℕ) → Once ℕ (λ r. r ≡ carriers kind)
-  -- request::is_entering
+  -- refusal::is_entering
   pub is-entering : (kind : ℕ) → Once Bool (λ r. r ≡ entering kind)
   -- close::settle
   pub settle : (g : Group) → Once Settled (λ r. r ≡ settledBy g)

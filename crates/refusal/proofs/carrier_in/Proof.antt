@@ -1,7 +1,7 @@
 -- `request::carrier_in` meets its contract.
 use borrow.Author.Tests.{lt-ltb, le-ltb}
-use Rattle.request.proofs.carrier_in.Statement.{statement}
-use Rattle.request.proofs.carrier_in.Tie as tie
+use Rattle.refusal.proofs.carrier_in.Statement.{statement}
+use Rattle.refusal.proofs.carrier_in.Tie as tie
 
 has-bit-requires : tie.Need-has-bit-requires
 has-bit-requires c κs = simp (lt-ltb _ _ (c .if1 .taken)) at (c .before .pre)

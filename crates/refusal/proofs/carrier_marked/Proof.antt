@@ -1,7 +1,7 @@
 -- `request::carrier_marked` meets its contract.
 use borrow.Author.Tests.{lt-ltb, le-ltb}
-use Rattle.request.proofs.carrier_marked.Statement.{statement}
-use Rattle.request.proofs.carrier_marked.Tie as tie
+use Rattle.refusal.proofs.carrier_marked.Statement.{statement}
+use Rattle.refusal.proofs.carrier_marked.Tie as tie
 
 model-marked-requires : tie.Need-model-marked-requires
 model-marked-requires c κs = simp (lt-ltb _ _ (c .if1 .taken)) at (c .before .pre)

@@ -1,7 +1,7 @@
 -- `request::sheet_marked` meets its contract.
 use borrow.Author.Needs.{needs}
-use Rattle.request.proofs.sheet_marked.Statement.{statement}
-use Rattle.request.proofs.sheet_marked.Tie as tie
+use Rattle.refusal.proofs.sheet_marked.Statement.{statement}
+use Rattle.refusal.proofs.sheet_marked.Tie as tie
 
 has-requires : tie.Need-has-requires
 has-requires c κs = search needs

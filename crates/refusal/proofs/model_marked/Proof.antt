@@ -1,7 +1,7 @@
 -- `request::model_marked` meets its contract.
 use borrow.Author.Needs.{needs}
-use Rattle.request.proofs.model_marked.Statement.{statement}
-use Rattle.request.proofs.model_marked.Tie as tie
+use Rattle.refusal.proofs.model_marked.Statement.{statement}
+use Rattle.refusal.proofs.model_marked.Tie as tie
 
 has-bit-requires : tie.Need-has-bit-requires
 has-bit-requires c κs = search needs

@@ -9,8 +9,8 @@ use Rattle.rules.specs.Refusals.{noTickLeft, secondEvent, alreadyIn, notIn}
 use Rattle.group.specs.Carrier.{carriers}
 use Rattle.group.specs.Request.{requestRefusal}
 use borrow.Author.Needs.{needs}
-use Rattle.request.proofs.request_refusal.Statement.{statement}
-use Rattle.request.proofs.request_refusal.Tie as tie
+use Rattle.refusal.proofs.request_refusal.Statement.{statement}
+use Rattle.refusal.proofs.request_refusal.Tie as tie
 
 -- where the kind and the number are in range, what is left of the order, over what the calls gave
 module _ (c : tie.After-is-entering) where
