@@ -2,6 +2,7 @@
 pub mod First
 pub mod Front
 pub mod HowMany
+pub mod Keep
 pub mod Part
 pub mod Rules
 pub mod Table

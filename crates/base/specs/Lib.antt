@@ -1,4 +1,5 @@
 pub mod First
 pub mod HowMany
+pub mod Keep
 pub mod Part
 pub mod Table

@@ -22,6 +22,14 @@ pub fn with_bit(word: u64, place: u32) -> u64
     word | 1 << place
 }
 
+// The word with the bit, where it is to have it.
+pub fn mark_word(word: u64, when: bool, place: u32) -> u64
+    requires { ⌜ (when ≡ true → place < width) ⌝ }
+    ensures { λ r. ⌜ r ≡ cond when (withBit word place) word ⌝ }
+{
+    if when { with_bit(word, place) } else { word }
+}
+
 pub fn after_word(was: u64, gone: u64, come: u64) -> u64
     ensures { λ r. ⌜ r ≡ afterWord was gone come ⌝ }
 {

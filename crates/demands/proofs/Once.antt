@@ -30,7 +30,7 @@ use Rattle.crossing.specs.declared.numbers.Delivered.{Delivered}
 use Rattle.crossing.specs.declared.numbers.Read.{Read}
 use Rattle.crossing.specs.declared.part.Part.{Part}
 use Rattle.gather.specs.Gather.{gathered, gatheredEnd}
-use Rattle.group.specs.Carrier.{carriers, entering}
+use Rattle.event.specs.Carrier.{carriers, entering}
 use Rattle.group.specs.Close.{closeAnswer}
 use Rattle.group.specs.Count.{countAnswer}
 use Rattle.group.specs.Fresh.{freshAnswer}
@@ -163,9 +163,9 @@ pub record PromisesDetermine : Type 0 where
   pub set-either : (xs ys : List ℕ) → Once (List ℕ) (λ r. r ≡ either 4 xs ys)
   -- sets::after
   pub set-after : (was gone come : List ℕ) → Once (List ℕ) (λ r. r ≡ after 4 was gone come)
-  -- refusal::carriers_of
+  -- event::carriers_of
   pub carriers-of : (kind : ℕ) → Once ℕ (λ r. r ≡ carriers kind)
-  -- refusal::is_entering
+  -- event::is_entering
   pub is-entering : (kind : ℕ) → Once Bool (λ r. r ≡ entering kind)
   -- close::settle
   pub settle : (g : Group) → Once Settled (λ r. r ≡ settledBy g)

@@ -8,7 +8,7 @@ use lib.ListN.{length}
 use Rattle.rules.specs.Kinds.{LR}
 use Rattle.rules.specs.Ranges.{models, sheets, groups, ticks}
 use Rattle.rules.specs.Refusals.{badKind, badNumber, noTickLeft, secondEvent, alreadyIn, notIn, badList, badGroup}
-use Rattle.group.specs.Carrier.{carriers, entering}
+use Rattle.event.specs.Carrier.{carriers, entering}
 use Rattle.group.specs.Close.{closedGroup, closeAnswer}
 use Rattle.group.specs.Count.{modelsGranted, countAnswer}
 use Rattle.group.specs.Fresh.{freshGroup, freshAnswer}

@@ -13,7 +13,7 @@ use Rattle.base.proofs.Truth.{either, neither}
 use Rattle.rules.specs.Kinds.{SA, LA, SR, LR, isAdd, isRemove}
 use Rattle.rules.specs.Ranges.{sheets, ticks}
 use Rattle.rules.specs.Refusals.{noTickLeft}
-use Rattle.group.specs.Carrier.{ofModel}
+use Rattle.event.specs.Carrier.{ofModel}
 use Rattle.group.specs.Fits.{Fits}
 use Rattle.bits.specs.Granted.{granted}
 use Rattle.group.specs.Read.{readAnswer}

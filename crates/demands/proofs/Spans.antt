@@ -27,7 +27,7 @@ use Rattle.group.specs.declared.Group.{Group}
 use Rattle.group.specs.declared.ReadAnswer.the-variants.{Granted}
 use Rattle.history.specs.Run.{Reached, run}
 use Rattle.history.specs.Run as history
-use Rattle.history.specs.Strips.{stripOf}
+use Rattle.strip.specs.Strips.{stripOf}
 use Rattle.history.proofs.Gate as gate
 use Rattle.history.proofs.Later.{run-closed, run-strip, told-later}
 use Rattle.history.proofs.Runs.{run-append}

@@ -17,7 +17,7 @@ use Rattle.strip.specs.Good.{range, Good}
 use Rattle.strip.specs.History.{historyOf}
 use Rattle.group.specs.declared.ReadAnswer.the-variants.{Granted, Denied}
 use Rattle.delivery.specs.declared.Delivery.the-variants.{Delivered}
-use Rattle.history.specs.Strips.{stripOf}
+use Rattle.strip.specs.Strips.{stripOf}
 use Rattle.history.specs.WellFormed.{WellFormed}
 use Rattle.demands.specs.Calls.{Run}
 use Rattle.demands.specs.Delivered.{Holds}

@@ -17,7 +17,7 @@ use Rattle.formula.specs.declared.Verdict.the-variants as verdict
 use Rattle.wire.specs.Words.{wordsIn}
 use Rattle.loader.specs.Judge.{wholeStrip}
 use Rattle.span.specs.Answer.{spansIn}
-use Rattle.group.specs.Carrier.{carriers, entering}
+use Rattle.event.specs.Carrier.{carriers, entering}
 use Rattle.group.specs.Marks.{carrierMarked, carrierIn}
 use Rattle.group.specs.declared.Group.{Group}
 use Rattle.bits.specs.Granted.{granted}

@@ -1,2 +1,3 @@
 -- Laws of event words.
+pub mod Carrier
 pub mod Word

@@ -1,1 +1,2 @@
+pub mod Carrier
 pub mod Word

@@ -9,7 +9,7 @@ use Rattle.rules.specs.Kinds.{LR}
 use Rattle.rules.specs.Ranges.{ticks}
 use Rattle.rules.specs.Refusals.{badKind, badNumber, noTickLeft, secondEvent, alreadyIn, notIn}
 use Rattle.group.specs.Accepted.{RequestAccepted}
-use Rattle.group.specs.Carrier.{carriers, entering}
+use Rattle.event.specs.Carrier.{carriers, entering}
 use Rattle.group.specs.Marks.{carrierMarked, carrierIn}
 use Rattle.group.specs.Request.{requestRefusal}
 use Rattle.group.specs.declared.Group.{Group}

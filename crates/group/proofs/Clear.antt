@@ -10,7 +10,7 @@ use Rattle.sets.specs.Set.{none, has}
 use Rattle.bits.proofs.Bit.{bit-zero}
 use Rattle.sets.proofs.Set.{has-none}
 use Rattle.group.proofs.Cases.{each-kind}
-use Rattle.group.specs.Carrier.{sheetWords}
+use Rattle.group.specs.SheetWords.{sheetWords}
 use Rattle.group.specs.Close.{closedGroup}
 use Rattle.group.specs.Fresh.{freshGroup}
 use Rattle.group.specs.Marks.{mark}

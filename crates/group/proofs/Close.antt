@@ -16,7 +16,7 @@ use Rattle.bits.specs.Bit.{width, bit, bitIn}
 use Rattle.sets.specs.Set.{has, Words}
 use Rattle.bits.proofs.Bit.{bit-zero, bit-or, bit-and-not, bit-after}
 use Rattle.sets.proofs.Set.{has-either, has-after, words-either}
-use Rattle.group.specs.Carrier.{sheetWords}
+use Rattle.group.specs.SheetWords.{sheetWords}
 use Rattle.group.specs.Close.{closedMembers, removes, adds, closedAdded, closedLiberal, closedGroup, closeAnswer}
 use Rattle.grants.specs.Words.{closedWord, closedWords}
 use Rattle.group.specs.Fits.{Fits}

@@ -17,14 +17,15 @@ use Rattle.bits.specs.Bit.{width}
 use Rattle.sets.specs.Set.{none}
 use Rattle.bits.proofs.Bit.{with-lt, and-lt, after-lt}
 use Rattle.sets.proofs.Set.{length-with, words-with, words-none, words-table, words-either, length-after, words-after}
-use Rattle.group.specs.Carrier.{ofModel, carriers, sheetWords}
+use Rattle.group.specs.SheetWords.{sheetWords}
+use Rattle.event.specs.Carrier.{ofModel, carriers}
 use Rattle.group.specs.Close.{closedMembers, removes, adds, closedAdded, closedLiberal, closedGroup, closeAnswer}
 use Rattle.grants.specs.Words.{closedWord, closedWords, Sized}
 use Rattle.group.specs.Fits.{Fits}
 use Rattle.group.specs.Fresh.{freshGroup, freshAnswer}
 use Rattle.group.specs.Request.{markedWord, markedSet, markedGroup, requestAnswer}
 use Rattle.group.specs.declared.Group.{Group}
-use Rattle.group.proofs.Carrier.{sheet-number, model-number}
+use Rattle.event.proofs.Carrier.{sheet-number, model-number}
 use Rattle.group.proofs.Close.{close-cases}
 use Rattle.group.proofs.Request.{sheet-word, request-cases}
 

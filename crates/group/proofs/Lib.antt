@@ -1,6 +1,5 @@
 -- Laws that the proofs of other crates cite.
 pub mod Accepted
-pub mod Carrier
 pub mod Cases
 pub mod Clear
 pub mod Close

@@ -16,7 +16,7 @@ use Rattle.bits.specs.Bit.{width, bit, afterWord}
 use Rattle.sets.specs.Set.{none, has, either, after}
 use Rattle.bits.proofs.Bit.{bit-zero, bit-ext}
 use Rattle.sets.proofs.Set.{bit-has, has-none, words-none}
-use Rattle.group.specs.Carrier.{sheetWords}
+use Rattle.group.specs.SheetWords.{sheetWords}
 use Rattle.group.specs.Close.{closedMembers, adds, closedAdded, closedLiberal, closedGroup}
 use Rattle.grants.specs.Words.{closedWord, closedWords, Sized}
 use Rattle.group.specs.Fits.{Fits}

@@ -17,14 +17,15 @@ use Rattle.bits.proofs.Bit.{bit-with}
 use Rattle.sets.proofs.Set.{has-with}
 use Rattle.group.specs.Accepted.{RequestAccepted}
 use Rattle.group.proofs.Cases.{each-kind}
-use Rattle.group.specs.Carrier.{carriers, sheetWords}
+use Rattle.group.specs.SheetWords.{sheetWords}
+use Rattle.event.specs.Carrier.{carriers}
 use Rattle.group.specs.Fits.{Fits}
 use Rattle.grants.specs.Words.{Sized}
 use Rattle.group.specs.Marks.{mark}
 use Rattle.group.specs.Request.{requestRefusal, markedWord, markedSet, markedGroup, requestAnswer}
 use Rattle.group.specs.declared.Group.{Group}
 use Rattle.group.proofs.Accepted.{accepted}
-use Rattle.group.proofs.Carrier.{sheet-number}
+use Rattle.event.proofs.Carrier.{sheet-number}
 
 -- ---- the mark
 

@@ -17,7 +17,8 @@ use Rattle.rules.specs.Refusals.{noTickLeft}
 use Rattle.sets.specs.Set.{none}
 use Rattle.bits.specs.Bit.{bitIn}
 use Rattle.bits.proofs.Bit.{bit-zero}
-use Rattle.group.specs.Carrier.{ofModel, sheetWords}
+use Rattle.group.specs.SheetWords.{sheetWords}
+use Rattle.event.specs.Carrier.{ofModel}
 use Rattle.group.specs.Close.{closedAdded, closedLiberal, closedGroup, closeAnswer}
 use Rattle.group.specs.Fits.{Fits}
 use Rattle.bits.specs.Granted.{granted}

@@ -4,7 +4,7 @@ use mathlib.Core.Bool.{false, not}
 use Prim.Native.Nat.{ℕ, _<_, _≤_}
 use Rattle.rules.specs.Kinds.{LR}
 use Rattle.rules.specs.Ranges.{ticks}
-use Rattle.group.specs.Carrier.{carriers, entering}
+use Rattle.event.specs.Carrier.{carriers, entering}
 use Rattle.group.specs.Marks.{carrierMarked, carrierIn}
 use Rattle.group.specs.declared.Group.{Group}
 

@@ -8,7 +8,7 @@ use Rattle.rules.specs.Ranges.{ticks}
 use Rattle.rules.specs.Refusals.{noTickLeft}
 use Rattle.bits.specs.Bit.{afterWord}
 use Rattle.sets.specs.Set.{none, either, after}
-use Rattle.group.specs.Carrier.{sheetWords}
+use Rattle.group.specs.SheetWords.{sheetWords}
 use Rattle.group.specs.declared.Group.{Group}
 use Rattle.group.specs.declared.Answer.{Answer}
 use Rattle.grants.specs.Words.{closedWords}

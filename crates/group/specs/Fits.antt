@@ -2,7 +2,7 @@
 use Prim.Native.Nat.{ℕ, _^_, _<_}
 use Rattle.rules.specs.Ranges.{sheets}
 use Rattle.bits.specs.Bit.{width}
-use Rattle.group.specs.Carrier.{sheetWords}
+use Rattle.group.specs.SheetWords.{sheetWords}
 use Rattle.group.specs.declared.Group.{Group}
 use Rattle.grants.specs.Words.{Sized}
 

@@ -5,7 +5,7 @@ use lib.Dec.{leb}
 use Rattle.rules.specs.Ranges.{sheets, groups}
 use Rattle.rules.specs.Refusals.{badGroup}
 use Rattle.sets.specs.Set.{none}
-use Rattle.group.specs.Carrier.{sheetWords}
+use Rattle.group.specs.SheetWords.{sheetWords}
 use Rattle.group.specs.declared.Group.{Group}
 use Rattle.group.specs.declared.Answer.{Answer}
 

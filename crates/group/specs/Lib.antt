@@ -1,5 +1,4 @@
 pub mod Accepted
-pub mod Carrier
 pub mod Close
 pub mod Count
 pub mod Fits
@@ -7,4 +6,5 @@ pub mod Fresh
 pub mod Marks
 pub mod Read
 pub mod Request
+pub mod SheetWords
 pub mod View

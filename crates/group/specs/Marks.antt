@@ -5,7 +5,7 @@ use lib.Dec.{eqb}
 use Rattle.rules.specs.Kinds.{SJ, LJ, SL, LL, SA, LA, SR, LR}
 use Rattle.bits.specs.Bit.{bit}
 use Rattle.sets.specs.Set.{has}
-use Rattle.group.specs.Carrier.{ofModel}
+use Rattle.event.specs.Carrier.{ofModel}
 use Rattle.group.specs.declared.Group.{Group}
 
 -- carrier i has an accepted event of the kind k in the open tick

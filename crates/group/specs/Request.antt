@@ -8,7 +8,7 @@ use Rattle.rules.specs.Ranges.{ticks}
 use Rattle.rules.specs.Refusals.{badKind, badNumber, noTickLeft, secondEvent, alreadyIn, notIn}
 use Rattle.bits.specs.Bit.{withBit}
 use Rattle.sets.specs.Set.{with}
-use Rattle.group.specs.Carrier.{carriers, entering}
+use Rattle.event.specs.Carrier.{carriers, entering}
 use Rattle.group.specs.Marks.{carrierMarked, carrierIn}
 use Rattle.group.specs.declared.Group.{Group}
 use Rattle.group.specs.declared.Answer.{Answer}

@@ -10,7 +10,8 @@ use Rattle.rules.specs.Kinds.{SJ, LJ, SL, LL, SA, LA, SR, LR}
 use Rattle.rules.specs.Ranges.{models, sheets, ticks}
 use Rattle.rules.specs.Refusals.{badKind, badNumber, noTickLeft, secondEvent, alreadyIn, notIn}
 use Rattle.sets.specs.Set.{none, has, either, after}
-use Rattle.group.specs.Carrier.{ofModel, carriers, entering, sheetWords}
+use Rattle.group.specs.SheetWords.{sheetWords}
+use Rattle.event.specs.Carrier.{ofModel, carriers, entering}
 use Rattle.group.specs.Marks.{mark, modelIn}
 use Rattle.bits.specs.Granted.{granted}
 use Rattle.group.specs.Request.{markedSet}

@@ -25,7 +25,7 @@ use Rattle.strip.specs.Good.{range}
 use Rattle.strip.specs.History.{historyOf}
 use Rattle.strip.proofs.Append.{each-more}
 use Rattle.group.specs.Accepted.{RequestAccepted}
-use Rattle.group.specs.Carrier.{carriers}
+use Rattle.event.specs.Carrier.{carriers}
 use Rattle.group.specs.Close.{closedGroup}
 use Rattle.group.specs.Fits.{Fits}
 use Rattle.group.specs.Fresh.{freshGroup, freshAnswer}
@@ -34,14 +34,14 @@ use Rattle.bits.specs.Granted.{granted}
 use Rattle.group.specs.Request.{requestRefusal, markedGroup}
 use Rattle.group.specs.declared.Group.{Group}
 use Rattle.group.proofs.Accepted.{accepted}
-use Rattle.group.proofs.Carrier.{sheet-number}
+use Rattle.event.proofs.Carrier.{sheet-number}
 use Rattle.group.proofs.Close.{closed-granted, closed-sheetInByLA, closed-closed, close-cases}
 use Rattle.group.proofs.Fits.{fresh-fits, marked-fits, closed-fits}
 use Rattle.group.proofs.Fresh.{fresh-modelIn, fresh-sheetInByLA, fresh-granted}
 use Rattle.group.proofs.Quiet.{fresh-unmarked}
 use Rattle.group.proofs.Request.{request-code, request-refused, request-accepted}
 use Rattle.history.specs.Run.{Move, request, close, Reached, step, run, fresh, reached}
-use Rattle.history.specs.Strips.{stripOf}
+use Rattle.strip.specs.Strips.{stripOf}
 use Rattle.history.proofs.Strips.{strip-later}
 use Rattle.history.proofs.Sides.{stays, in-fresh, in-closed}
 use Rattle.history.proofs.Carried.{Carried, carried-marks, carried-before, fresh-carried}

@@ -8,7 +8,7 @@ use borrow.Author.Tests.{lt-leb}
 use Rattle.base.proofs.Truth.{either}
 use Rattle.rules.specs.Ranges.{models, sheets}
 use Rattle.strip.specs.Good.{range}
-use Rattle.group.specs.Carrier.{ofModel, carriers}
+use Rattle.event.specs.Carrier.{ofModel, carriers}
 use Rattle.bits.specs.Granted.{granted}
 use Rattle.group.specs.Read.{readAnswer}
 use Rattle.group.specs.Request.{requestRefusal}

@@ -20,7 +20,8 @@ use Rattle.strip.proofs.Places.{UpTo}
 use Rattle.strip.proofs.Append.{good-later, good-next, history-other, history-last, history-past}
 use Rattle.group.specs.declared.Group.{Group}
 use Rattle.group.proofs.Quiet.{Unmarked}
-use Rattle.history.specs.Strips.{keep, stripOf}
+use Rattle.strip.specs.Strips.{stripOf}
+use Rattle.base.specs.Keep.{keep}
 use Rattle.history.proofs.Strips.{strip-upto, strip-number}
 use Rattle.history.proofs.Sides.{even, inOn, Marks}
 

@@ -10,12 +10,12 @@ use Rattle.strip.specs.declared.Side.{Side}
 use Rattle.strip.specs.Good.{range}
 use Rattle.strip.proofs.Places.{UpTo}
 use Rattle.strip.proofs.Append.{length-more}
-use Rattle.group.specs.Carrier.{entering}
+use Rattle.event.specs.Carrier.{entering}
 use Rattle.group.specs.Close.{closedGroup}
 use Rattle.group.specs.Fits.{Fits}
 use Rattle.group.specs.declared.Group.{Group}
 use Rattle.group.proofs.Clear.{closed-mark}
-use Rattle.history.specs.Strips.{stripOf}
+use Rattle.strip.specs.Strips.{stripOf}
 use Rattle.history.proofs.Strips.{strip-all}
 use Rattle.history.proofs.Sides.{even, even-suc, turn-is, turn-side, same-turn, inOn, closed-idle, closed-event}
 use Rattle.history.proofs.Carried.{Open, idle, event, Carried, carried-good, not-quiet}

@@ -28,7 +28,7 @@ use Rattle.group.specs.Request.{requestRefusal}
 use Rattle.group.specs.declared.Group.{Group}
 use Rattle.group.specs.declared.ReadAnswer.the-variants.{Granted}
 use Rattle.history.specs.Run.{Move, openTick, reached}
-use Rattle.history.specs.Strips.{stripOf}
+use Rattle.strip.specs.Strips.{stripOf}
 use Rattle.history.specs.WellFormed.{WellFormed}
 use Rattle.history.proofs.Agreed.{Ranged, reached-agrees}
 use Rattle.history.proofs.Answers.{read-granted, accepts}

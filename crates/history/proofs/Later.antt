@@ -15,11 +15,12 @@ use Rattle.strip.specs.History.{historyOf}
 use Rattle.group.specs.Request.{requestAnswer}
 use Rattle.group.specs.declared.Group.{Group}
 use Rattle.group.proofs.Accepted.{accepted}
-use Rattle.group.proofs.Carrier.{sheet-number}
+use Rattle.event.proofs.Carrier.{sheet-number}
 use Rattle.group.proofs.Close.{close-cases, closed-closed}
 use Rattle.group.proofs.Request.{request-code, request-keeps}
 use Rattle.history.specs.Run.{Move, request, close, Reached, openTick, step, run}
-use Rattle.history.specs.Strips.{keep, stripOf}
+use Rattle.strip.specs.Strips.{stripOf}
+use Rattle.base.specs.Keep.{keep}
 use Rattle.history.proofs.Strips.{strip-later}
 
 -- ---- one call

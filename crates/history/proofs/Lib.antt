@@ -5,7 +5,6 @@ pub mod Carried
 pub mod Closes
 pub mod Gate
 pub mod Histories
-pub mod Keep
 pub mod Later
 pub mod Requests
 pub mod Runs

@@ -18,14 +18,14 @@ use Rattle.strip.specs.declared.Side.the-variants.{Model, Sheet}
 use Rattle.strip.specs.Good.{range, turn, tickBefore, Good}
 use Rattle.strip.proofs.Append.{good-end, before-end}
 use Rattle.group.specs.Accepted.{RequestAccepted}
-use Rattle.group.specs.Carrier.{carriers, entering}
+use Rattle.event.specs.Carrier.{carriers, entering}
 use Rattle.group.specs.Fits.{Fits}
 use Rattle.group.specs.Marks.{modelMarked, sheetMarked, carrierIn, modelIn, sheetIn}
 use Rattle.group.specs.Request.{markedGroup}
 use Rattle.group.specs.declared.Group.{Group}
-use Rattle.group.proofs.Carrier.{sheet-number}
+use Rattle.event.proofs.Carrier.{sheet-number}
 use Rattle.group.proofs.Request.{mark-marked}
-use Rattle.history.specs.Strips.{carriedBy, stripOf}
+use Rattle.strip.specs.Strips.{carriedBy, stripOf}
 use Rattle.history.proofs.Strips.{strip-later, strip-other, strip-own}
 use Rattle.history.proofs.Sides.{by-kind, ofSide, even, turn-is, turn-side, same-turn, inOn, markedOn, carriers-range, carried-is, carried-parts, Marks, known, known-side, marked-known}
 use Rattle.history.proofs.Carried.{Open, idle, event, Carried, carried-good, not-quiet}

@@ -13,7 +13,7 @@ use Rattle.event.specs.Word.{kindOf, numberOf}
 use Rattle.strip.specs.declared.Side.{Side}
 use Rattle.strip.specs.declared.Side.the-variants.{Model, Sheet}
 use Rattle.strip.specs.Good.{enters, leaves, range, turn}
-use Rattle.group.specs.Carrier.{ofModel, carriers, entering}
+use Rattle.event.specs.Carrier.{ofModel, carriers, entering}
 use Rattle.group.specs.Close.{closedGroup}
 use Rattle.group.specs.Fits.{Fits}
 use Rattle.group.specs.Fresh.{freshGroup}
@@ -22,7 +22,7 @@ use Rattle.group.specs.declared.Group.{Group}
 use Rattle.group.proofs.Close.{closed-modelIn, closed-sheetIn}
 use Rattle.group.proofs.Cases.{each-kind}
 use Rattle.group.proofs.Fresh.{fresh-modelIn, fresh-sheetIn}
-use Rattle.history.specs.Strips.{carriedBy}
+use Rattle.strip.specs.Strips.{carriedBy}
 
 -- ---- kinds
 

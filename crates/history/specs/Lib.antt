@@ -1,4 +1,3 @@
 pub mod Histories
 pub mod Run
-pub mod Strips
 pub mod WellFormed

@@ -8,8 +8,8 @@ use Rattle.event.specs.Word.{wordOf}
 use Rattle.strip.specs.declared.Side.{Side}
 use Rattle.strip.specs.declared.Side.the-variants.{Model, Sheet}
 use Rattle.strip.specs.Good.{Good}
-use Rattle.group.specs.Carrier.{ofModel, carriers}
-use Rattle.history.specs.Strips.{stripOf}
+use Rattle.event.specs.Carrier.{ofModel, carriers}
+use Rattle.strip.specs.Strips.{stripOf}
 
 -- whose events a kind's are
 abbrev pub sideOf : ℕ → Side

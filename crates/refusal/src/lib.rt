@@ -2,38 +2,19 @@
 ghost use mathlib.Core.Path.{_≡_};
 ghost use Prim.Native.Nat.{_<_};
 ghost use Rattle.rules.specs.Ranges.{models, sheets};
-ghost use Rattle.group.specs.Carrier.{carriers, entering};
+ghost use Rattle.event.specs.Carrier.{carriers};
 ghost use Rattle.group.specs.Marks.{modelMarked, sheetMarked, carrierMarked, carrierIn};
 ghost use Rattle.group.specs.Request.{requestRefusal};
 use group::Group;
 use rules::ALREADY_IN;
 use rules::BAD_KIND;
 use rules::BAD_NUMBER;
-use rules::LA;
-use rules::LJ;
 use rules::LR;
-use rules::MODELS;
 use rules::NO_TICK_LEFT;
 use rules::NOT_IN;
 use rules::SA;
 use rules::SECOND_EVENT;
-use rules::SHEETS;
-use rules::SJ;
 use rules::TICKS;
-
-// How many carriers a kind has to choose from.
-pub fn carriers_of(kind: u32) -> u32
-    ensures { λ r. ⌜ r ≡ carriers kind ⌝ }
-{
-    if kind < SA { MODELS } else { SHEETS }
-}
-
-// A join or an add.
-pub fn is_entering(kind: u32) -> bool
-    ensures { λ r. ⌜ r ≡ entering kind ⌝ }
-{
-    (kind == SJ) | (kind == LJ) | (kind == SA) | (kind == LA)
-}
 
 fn model_marked(group: Group, model: u32) -> bool
     requires { ⌜ model < models ⌝ }
@@ -87,13 +68,13 @@ pub fn request_refusal(group: Group, kind: u32, number: u32) -> u32
     if kind > LR {
         return BAD_KIND;
     }
-    if number >= carriers_of(kind) {
+    if number >= event::carriers_of(kind) {
         return BAD_NUMBER;
     }
     let full = group.closed >= TICKS;
     let marked = carrier_marked(group, kind, number);
     let inside = carrier_in(group, kind, number);
-    let entering = is_entering(kind);
+    let entering = event::is_entering(kind);
     if full {
         return NO_TICK_LEFT;
     }

@@ -1,11 +1,7 @@
 // A request to a group: where nothing refuses it, the mark that it leaves in the open tick.
 ghost use mathlib.Core.Path.{_≡_};
-ghost use mathlib.Core.Bool.{true, cond};
 ghost use Prim.Native.Nat.{_<_};
-ghost use Rattle.rules.specs.Ranges.{models, sheets};
-ghost use Rattle.bits.specs.Bit.{withBit};
-ghost use Rattle.sets.specs.Set.{with};
-ghost use Rattle.group.specs.Carrier.{carriers};
+ghost use Rattle.event.specs.Carrier.{carriers};
 ghost use Rattle.group.specs.Request.{markedGroup, requestAnswer};
 use group::Answer;
 use group::Group;
@@ -18,29 +14,6 @@ use rules::SJ;
 use rules::SL;
 use rules::SR;
 
-// One kind's marks after a request: changed where the request is of that kind.
-pub fn mark_word(word: u64, when: bool, model: u32) -> u64
-    requires { ⌜ (when ≡ true → model < models) ⌝ }
-    ensures { λ r. ⌜ r ≡ cond when (withBit word model) word ⌝ }
-{
-    if when {
-        bits::with_bit(word, model)
-    } else {
-        word
-    }
-}
-
-pub fn mark_set(words: [u64; 4], when: bool, sheet: u32) -> [u64; 4]
-    requires { ⌜ (when ≡ true → sheet < sheets) ⌝ }
-    ensures { λ r. ⌜ r ≡ cond when (with words sheet) words ⌝ }
-{
-    if when {
-        sets::with(words, sheet)
-    } else {
-        words
-    }
-}
-
 fn marked(mut group: Group, kind: u32, number: u32) -> Group
     requires { ⌜ number < carriers kind ⌝ }
     ensures { λ r. ⌜ r ≡ markedGroup group kind number ⌝ }
@@ -49,14 +22,14 @@ fn marked(mut group: Group, kind: u32, number: u32) -> Group
     let was_la = group.la;
     let was_sr = group.sr;
     let was_lr = group.lr;
-    let sa = mark_set(was_sa, kind == SA, number);
-    let la = mark_set(was_la, kind == LA, number);
-    let sr = mark_set(was_sr, kind == SR, number);
-    let lr = mark_set(was_lr, kind == LR, number);
-    group.sj = mark_word(group.sj, kind == SJ, number);
-    group.lj = mark_word(group.lj, kind == LJ, number);
-    group.sl = mark_word(group.sl, kind == SL, number);
-    group.ll = mark_word(group.ll, kind == LL, number);
+    let sa = sets::mark_set(was_sa, kind == SA, number);
+    let la = sets::mark_set(was_la, kind == LA, number);
+    let sr = sets::mark_set(was_sr, kind == SR, number);
+    let lr = sets::mark_set(was_lr, kind == LR, number);
+    group.sj = bits::mark_word(group.sj, kind == SJ, number);
+    group.lj = bits::mark_word(group.lj, kind == LJ, number);
+    group.sl = bits::mark_word(group.sl, kind == SL, number);
+    group.ll = bits::mark_word(group.ll, kind == LL, number);
     group.sa = sa;
     group.la = la;
     group.sr = sr;

@@ -16,7 +16,7 @@ use Rattle.event.specs.Word.{tickOf}
 use Rattle.wire.proofs.Words.{length-words}
 use Rattle.group.specs.declared.Group.{Group}
 use Rattle.history.specs.Run.{Reached, fresh, reached}
-use Rattle.history.proofs.Keep.{keep-all}
+use Rattle.base.proofs.Keep.{keep-all}
 use Rattle.replay.specs.Calls.{bookCalls}
 use Rattle.book.specs.Read.{recordsIn, bookRead, listRead}
 use Rattle.format.specs.Header.{ticksIn, countIn, numberIn}

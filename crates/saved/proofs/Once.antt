@@ -12,8 +12,8 @@ use borrow.Author.Tests.{eq-eqb, ne-eqb, leb-true, leb-false}
 use Rattle.base.specs.First.{first}
 use Rattle.base.proofs.First.{first-before}
 use Rattle.base.proofs.Truth.{either}
-use Rattle.history.specs.Strips.{keep}
-use Rattle.history.proofs.Keep.{keep-none}
+use Rattle.base.specs.Keep.{keep}
+use Rattle.base.proofs.Keep.{keep-none}
 use Rattle.tick.specs.Tick.{notGreater, rising}
 use Rattle.saved.specs.Saved.{howOften, InBookOrder}
 use Rattle.saved.proofs.Order.{passing-one}

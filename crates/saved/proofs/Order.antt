@@ -9,8 +9,8 @@ use lib.Dec.{eqb, leb}
 use lib.ListN.{length, take, drop, take-append-drop, length-append}
 use Rattle.base.proofs.Truth.{either}
 use Rattle.event.specs.Word.{tickOf}
-use Rattle.history.specs.Strips.{keep}
-use Rattle.history.proofs.Keep.{keep-append}
+use Rattle.base.specs.Keep.{keep}
+use Rattle.base.proofs.Keep.{keep-append}
 use Rattle.kept.specs.Inserted.{inserted}
 use Rattle.kept.proofs.Among.{place, length-inserted}
 use Rattle.saved.specs.Saved.{upTo, howOften}

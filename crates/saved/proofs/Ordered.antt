@@ -17,7 +17,7 @@ use Rattle.event.specs.Word.{tickOf, kindOf, numberOf}
 use Rattle.strip.specs.declared.Side.{Side}
 use Rattle.strip.specs.Good.{range}
 use Rattle.group.specs.Accepted.{RequestAccepted}
-use Rattle.group.specs.Carrier.{ofModel, entering}
+use Rattle.event.specs.Carrier.{ofModel, entering}
 use Rattle.group.specs.Close.{closedGroup}
 use Rattle.group.specs.Fits.{Fits}
 use Rattle.group.specs.Fresh.{freshAnswer}
@@ -25,9 +25,9 @@ use Rattle.group.specs.Marks.{modelMarked, sheetMarked, modelIn, sheetIn}
 use Rattle.group.specs.Request.{markedGroup}
 use Rattle.group.specs.declared.Group.{Group}
 use Rattle.group.proofs.Fits.{freshAnswer-fits, marked-fits, closed-fits}
-use Rattle.history.specs.Strips.{keep}
+use Rattle.base.specs.Keep.{keep}
 use Rattle.history.specs.WellFormed.{sideOf}
-use Rattle.history.proofs.Keep.{keep-append, keep-all, kept}
+use Rattle.base.proofs.Keep.{keep-append, keep-all, kept}
 use Rattle.history.proofs.Carried.{small}
 use Rattle.history.proofs.Sides.{ofSide, by-kind, carriers-range, Marks, known-side, marked-known}
 use Rattle.records.specs.Records.{carrierOf, lastOf, standsIn, breaks, WellFormedRecords}

@@ -18,7 +18,7 @@ use Rattle.group.proofs.Close.{close-cases, closed-number}
 use Rattle.group.proofs.Request.{request-keeps}
 use Rattle.history.specs.Run.{Move, request, close, Reached, step, run, fresh, reached}
 use Rattle.history.proofs.Agreed.{reached-agrees}
-use Rattle.history.proofs.Keep.{kept}
+use Rattle.base.proofs.Keep.{kept}
 use Rattle.history.proofs.Runs.{reached-append}
 use Rattle.format.specs.Header.{lengthOf, ticksIn, numberIn, roomRefusal}
 use Rattle.replay.specs.Calls.{bookCalls}

@@ -17,10 +17,10 @@ use Rattle.group.specs.Close.{closeAnswer}
 use Rattle.group.specs.Request.{requestRefusal, markedGroup, requestAnswer}
 use Rattle.group.specs.declared.Group.{Group}
 use Rattle.group.proofs.Accepted.{accepted}
-use Rattle.group.proofs.Carrier.{sheet-number}
+use Rattle.event.proofs.Carrier.{sheet-number}
 use Rattle.group.proofs.Close.{closed-closed}
 use Rattle.history.specs.Run.{Move, request, close, Reached, step, run, fresh}
-use Rattle.history.specs.Strips.{keep}
+use Rattle.base.specs.Keep.{keep}
 use Rattle.kept.specs.Inserted.{insertedList, insertedCount}
 use Rattle.kept.specs.Kept.{openWord}
 use Rattle.kept.specs.declared.Kept.{Kept}

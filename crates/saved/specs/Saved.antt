@@ -9,7 +9,7 @@ use Rattle.rules.specs.Ranges.{events}
 use Rattle.rules.specs.Refusals.{badHeader}
 use Rattle.event.specs.Word.{tickOf}
 use Rattle.history.specs.Run.{Reached}
-use Rattle.history.specs.Strips.{keep}
+use Rattle.base.specs.Keep.{keep}
 use Rattle.book.specs.Book.{Holdable}
 use Rattle.book.specs.Read.{recordsIn, bookRead}
 use Rattle.tick.specs.Tick.{rising}

@@ -1,5 +1,6 @@
 // Sets of numbers below 256, kept as four words.
 ghost use mathlib.Core.Path.{_≡_};
+ghost use mathlib.Core.Bool.{true, cond};
 ghost use Prim.Native.Nat.{_<_};
 ghost use Rattle.sets.specs.Set.{has, with, either, after};
 
@@ -19,6 +20,14 @@ pub fn with(words: [u64; 4], number: u32) -> [u64; 4]
     let mut out = words;
     out[k] = bits::with_bit(out[k], number % bits::WIDTH);
     out
+}
+
+// The set with the number, where it is to have it.
+pub fn mark_set(words: [u64; 4], when: bool, number: u32) -> [u64; 4]
+    requires { ⌜ (when ≡ true → number < 256) ⌝ }
+    ensures { λ r. ⌜ r ≡ cond when (with words number) words ⌝ }
+{
+    if when { with(words, number) } else { words }
 }
 
 pub fn either(a: [u64; 4], b: [u64; 4]) -> [u64; 4]

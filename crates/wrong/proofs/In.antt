@@ -11,7 +11,7 @@ use Rattle.station.specs.declared.MaskAnswer.{MaskAnswer}
 use Rattle.delivery.specs.declared.Delivery.{Delivery}
 use Rattle.strip.specs.declared.Side.{Side}
 use Rattle.strip.specs.Good.{range}
-use Rattle.history.specs.Strips.{stripOf}
+use Rattle.strip.specs.Strips.{stripOf}
 use Rattle.history.proofs.Agreed.{reached-agrees}
 use Rattle.history.proofs.Sides.{even, inOn}
 use Rattle.demands.specs.Calls.{Call, request, close, read, count, deliver, Run, startFresh, next, reach}

@@ -13,12 +13,12 @@ use Rattle.rules.specs.Ranges.{ticks}
 use Rattle.event.specs.Word.{wordOf}
 use Rattle.formula.specs.Ticks.{grant}
 use Rattle.formula.proofs.Meaning.{means-grant}
-use Rattle.group.specs.Carrier.{carriers}
+use Rattle.event.specs.Carrier.{carriers}
 use Rattle.strip.specs.declared.Side.the-variants.{Model, Sheet}
 use Rattle.strip.specs.Good.{firstBad}
 use Rattle.strip.specs.History.{historyOf}
 use Rattle.strip.proofs.Bad.{all-good}
-use Rattle.history.specs.Strips.{stripOf}
+use Rattle.strip.specs.Strips.{stripOf}
 use Rattle.history.specs.WellFormed.{sideOf, WellFormed}
 use Rattle.demands.specs.Calls.{Call, request, close, Run, startFresh, next, reach}
 use Rattle.demands.specs.Gate.{Gate}

@@ -36,7 +36,7 @@ use Rattle.delivery.specs.declared.Delivery.the-variants.{Delivered, Refused}
 use Rattle.wire.specs.Word.{le32, bytes32}
 use Rattle.group.proofs.Fresh.{fresh-granted}
 use Rattle.group.proofs.Request.{bit-marked, request-keeps}
-use Rattle.history.specs.Strips.{keep}
+use Rattle.base.specs.Keep.{keep}
 use Rattle.history.proofs.Answers.{read-granted}
 use Rattle.demands.specs.Alike.{shared, answersOf, Alike, done, both, stores, left, right}
 use Rattle.demands.specs.Calls.{Call, request, close, read, count, deliver, Answer, delivered, answerTo, Run, startFresh, startBook, next, reach}

@@ -6,7 +6,7 @@ use lib.Dec.{leb}
 use borrow.Author.Tests.{lt-ltb, le-ltb, le-leb, lt-leb}
 use Rattle.rules.specs.Ranges.{ticks}
 use Rattle.rules.specs.Refusals.{noTickLeft, secondEvent, alreadyIn, notIn}
-use Rattle.group.specs.Carrier.{carriers}
+use Rattle.event.specs.Carrier.{carriers}
 use Rattle.group.specs.Request.{requestRefusal}
 use borrow.Author.Needs.{needs}
 use Rattle.refusal.proofs.request_refusal.Statement.{statement}

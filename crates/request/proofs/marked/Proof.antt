@@ -4,10 +4,10 @@ use mathlib.Core.Bool.{true}
 use Prim.Native.Nat.{ℕ, _<_}
 use lib.Dec.{eqb}
 use Rattle.rules.specs.Ranges.{models, sheets}
-use Rattle.group.specs.Carrier.{ofModel}
+use Rattle.event.specs.Carrier.{ofModel}
 use Rattle.rules.specs.Kinds.{SJ, LJ, SL, LL}
 use Rattle.group.specs.Request.{markedGroup}
-use Rattle.group.proofs.Carrier.{sheet-number, model-number}
+use Rattle.event.proofs.Carrier.{sheet-number, model-number}
 use Rattle.request.proofs.marked.Statement.{statement}
 use Rattle.request.proofs.marked.Tie as tie
 

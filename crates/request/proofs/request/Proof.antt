@@ -9,7 +9,7 @@ use borrow.Author.Tests.{leb-false, ne-eqb}
 use Rattle.base.proofs.Truth.{either}
 use Rattle.rules.specs.Kinds.{LR}
 use Rattle.rules.specs.Refusals.{badKind, badNumber}
-use Rattle.group.specs.Carrier.{carriers}
+use Rattle.event.specs.Carrier.{carriers}
 use Rattle.group.specs.Request.{requestRefusal, requestAnswer}
 use Rattle.group.specs.declared.Group.{Group}
 use borrow.Author.Needs.{needs}

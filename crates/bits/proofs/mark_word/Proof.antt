@@ -1,6 +1,6 @@
--- `request::mark_word` meets its contract.
-use Rattle.request.proofs.mark_word.Statement.{statement}
-use Rattle.request.proofs.mark_word.Tie as tie
+-- `bits::mark_word` meets its contract.
+use Rattle.bits.proofs.mark_word.Statement.{statement}
+use Rattle.bits.proofs.mark_word.Tie as tie
 
 with-bit-requires : tie.Need-with-bit-requires
 with-bit-requires c κs = c .before .pre (c .if1 .taken)

@@ -1,6 +1,6 @@
--- `request::mark_set` meets its contract.
-use Rattle.request.proofs.mark_set.Statement.{statement}
-use Rattle.request.proofs.mark_set.Tie as tie
+-- `sets::mark_set` meets its contract.
+use Rattle.sets.proofs.mark_set.Statement.{statement}
+use Rattle.sets.proofs.mark_set.Tie as tie
 
 with-requires : tie.Need-with-requires
 with-requires c κs = c .before .pre (c .if1 .taken)
