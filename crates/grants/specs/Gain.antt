@@ -1,13 +1,13 @@
 -- The words of a close as the code makes them: first what an SL takes from all of them, then the rest of the tick. `closed-apart` of proofs/Apart.antt shows that this is the close.
 use mathlib.Core.Bool.{Bool, cond}
 use mathlib.Core.List.{List}
-use Prim.Native.Nat.{ℕ, _-_, _^_}
+use Prim.Native.Nat.{ℕ, _-_, _/_, _%_, _^_}
 use lib.Dec.{eqb}
 use lib.Bits.{bitAnd, bitOr}
 use lib.ListN.{getD}
 use Rattle.base.specs.Table.{table}
 use Rattle.rules.specs.Ranges.{sheets}
-use Rattle.bits.specs.Bit.{width}
+use Rattle.bits.specs.Bit.{width, bit}
 use Rattle.sets.specs.Set.{has}
 
 unfoldable pub lostWords : List ℕ → ℕ → List ℕ
@@ -18,6 +18,14 @@ gainedWord word sr add liberal members lj = bitOr (bitOr (cond sr 0 word) (cond 
 
 unfoldable pub gainedWords : List ℕ → List ℕ → List ℕ → List ℕ → ℕ → ℕ → List ℕ
 gainedWords words sr adds liberal members lj = table sheets (λ s. gainedWord (getD words s 0) (has sr s) (has adds s) (has liberal s) members lj)
+
+-- the same in word k of the sheets alone, from that word of the tick's sets; the other sheets keep their words
+unfoldable pub gainedIn : ℕ → List ℕ → ℕ → ℕ → ℕ → ℕ → ℕ → List ℕ
+gainedIn k words sr adds liberal members lj =
+    table sheets (λ s.
+    cond (eqb (s / width) k)
+    (gainedWord (getD words s 0) (bit sr (s % width)) (bit adds (s % width)) (bit liberal (s % width)) members lj)
+    (getD words s 0))
 
 -- the sheets of one word of sheets whose grants may change: with an SR or an add, and where a model has an LJ, in by LA
 abbrev pub changedSheets : ℕ → ℕ → ℕ → ℕ → ℕ

@@ -1,9 +1,10 @@
 // The grants after a tick, changed where they stand. Most ticks name few carriers, so most words need no look.
 ghost use mathlib.Core.Path.{_≡_};
-ghost use lib.ListN.{length};
+ghost use Prim.Native.Nat.{_<_};
+ghost use lib.ListN.{length, getD};
 ghost use Rattle.rules.specs.Ranges.{sheets};
 ghost use Rattle.grants.specs.Words.{Sized, closedWords};
-ghost use Rattle.grants.specs.Gain.{lostWords, gainedWord, changedSheets, gainedWords};
+ghost use Rattle.grants.specs.Gain.{lostWords, gainedWord, changedSheets, gainedWords, gainedIn};
 use rules::SHEETS;
 
 // Every sheet's word without the models that have an SL.
@@ -34,7 +35,40 @@ fn changed(sr: u64, adds: u64, liberal: u64, lj: u64) -> u64
     sr | adds | bits::choose(lj == 0, 0, liberal)
 }
 
-// Every sheet's word after the rest of the tick, one word of sheets after the other; the sheets that don't change are passed over.
+// The words of the sheets of word k after the rest of the tick; the sheets that don't change are passed over.
+fn gain_word(
+    words: &mut [u64; 256],
+    k: usize,
+    removed: u64,
+    added: u64,
+    inside: u64,
+    members: u64,
+    lj: u64,
+)
+    requires { ⌜ (length (words .now) ≡ sheets) × (k < 4) ⌝ }
+    ensures { λ _. ⌜ words .exit .now ≡ gainedIn k (words .entry .now) removed added inside members lj ⌝ }
+{
+    let change = changed(removed, added, inside, lj);
+    let mut place = bits::next_bit(change, 0);
+    while place < bits::WIDTH {
+        let s = k * 64 + place as usize;
+        let sr_here = bits::has_bit(removed, place);
+        let add_here = bits::has_bit(added, place);
+        let in_here = bits::has_bit(inside, place);
+        words[s] = gained(words[s], sr_here, add_here, in_here, members, lj);
+        place = bits::next_bit(change, place + 1);
+    }
+}
+
+// Word k of a set of sheets. Read here, so that `gain` keeps no set in memory, which would make its check dear.
+fn word_of(set: [u64; 4], k: usize) -> u64
+    requires { ⌜ k < 4 ⌝ }
+    ensures { λ r. ⌜ r ≡ getD set k 0 ⌝ }
+{
+    set[k]
+}
+
+// Every sheet's word after the rest of the tick, one word of sheets after the other.
 fn gain(
     words: &mut [u64; 256],
     sr: [u64; 4],
@@ -47,19 +81,10 @@ fn gain(
     ensures { λ _. ⌜ words .exit .now ≡ gainedWords (words .entry .now) sr adds liberal members lj ⌝ }
 {
     for k in 0..4usize {
-        let removed = sr[k];
-        let added = adds[k];
-        let inside = liberal[k];
-        let change = changed(removed, added, inside, lj);
-        let mut place = bits::next_bit(change, 0);
-        while place < bits::WIDTH {
-            let s = k * 64 + place as usize;
-            let sr_here = bits::has_bit(removed, place);
-            let add_here = bits::has_bit(added, place);
-            let in_here = bits::has_bit(inside, place);
-            words[s] = gained(words[s], sr_here, add_here, in_here, members, lj);
-            place = bits::next_bit(change, place + 1);
-        }
+        let removed = word_of(sr, k);
+        let added = word_of(adds, k);
+        let inside = word_of(liberal, k);
+        gain_word(&mut *words, k, removed, added, inside, members, lj);
     }
 }
 
