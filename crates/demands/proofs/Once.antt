@@ -35,7 +35,7 @@ use Rattle.group.specs.Close.{closeAnswer}
 use Rattle.group.specs.Count.{countAnswer}
 use Rattle.group.specs.Fresh.{freshAnswer}
 use Rattle.group.specs.Read.{Reads, readAnswer}
-use Rattle.group.specs.Request.{requestAnswer}
+use Rattle.group.specs.Request.{requestRefusal, requestAnswer}
 use Rattle.close.specs.Settled.{settledBy}
 use Rattle.group.specs.declared.Answer.{Answer}
 use Rattle.group.specs.declared.CountAnswer.{CountAnswer}
@@ -77,6 +77,8 @@ pub record PromisesDetermine : Type 0 where
   -- the group
   -- Group::fresh, ferrulebee_fresh
   pub fresh : (number : ℕ) → Once Answer (λ r. r ≡ freshAnswer number)
+  -- refusal::request_refusal
+  pub request-refusal : (g : Group) (kind n : ℕ) → Once ℕ (λ r. r ≡ requestRefusal g kind n)
   -- request::request, ferrulebee_request
   pub request : (g : Group) (kind n : ℕ) → Once Answer (λ r. r ≡ requestAnswer g kind n)
   -- request::request_at, ferrulebee_request_at
@@ -176,13 +178,13 @@ pub record PromisesDetermine : Type 0 where
   -- the pass over two strips: before the first tick, the next event, a tick's events taken, what the standing tells
   -- pass::begin
   pub begin : (m s : List ℕ) → Once Pass (λ r. r ≡ begun m s)
-  -- standing::next_event
+  -- stepping::next_event
   pub next-event : (s : List ℕ) (i : ℕ) → Once Head (λ r. r ≡ headOf s i)
-  -- standing::step
+  -- stepping::step
   pub scan-step : (seen : Seen) (t model sheet : ℕ) → Once Seen (λ r. r ≡ stepOf seen t model sheet)
-  -- standing::holds
+  -- stepping::holds
   pub holds : (x : Standing) → Once Bool (λ r. r ≡ holding x)
-  -- standing::told
+  -- stepping::told
   pub told : (x : Standing) → Once Verdict (λ r. r ≡ toldBy x)
   -- the accepted events as the keeper keeps them: a list for them, an event's word, how many records a book has, a start, and after each call
   -- kept::space
@@ -238,6 +240,7 @@ once-delivered grants m store out r t p q = let e = once grants m store out (r .
 pub promises-determine : PromisesDetermine
 promises-determine = record {
   fresh = λ number. one (freshAnswer number);
+  request-refusal = λ g kind n. one (requestRefusal g kind n);
   request = λ g kind n. one (requestAnswer g kind n);
   request-at = λ g kind n. two (requestAnswer g kind n .code) (requestAnswer g kind n .group);
   close = λ g. one (closeAnswer g);
