@@ -51,7 +51,7 @@ use Rattle.judge.specs.declared.check.Checked.{Checked}
 use Rattle.stepping.specs.declared.Head.{Head}
 use Rattle.standing.specs.declared.Seen.{Seen}
 use Rattle.standing.specs.declared.Standing.{Standing}
-use Rattle.kept.specs.Inserted.{insertedCount, insertedList}
+use Rattle.insert.specs.Inserted.{insertedCount, insertedList}
 use Rattle.kept.specs.Kept.{room, openWord, recordsOf, startedWith, requestedKept, requestedList, closedKept, closedEvents}
 use Rattle.kept.specs.declared.Kept.{Kept}
 use Rattle.pass.specs.Pass.{begun}
@@ -195,7 +195,7 @@ pub record PromisesDetermine : Type 0 where
   pub records : (n : ℕ) → Once ℕ (λ r. r ≡ recordsOf n)
   -- kept::started
   pub started : (n : ℕ) → Once Kept (λ r. r ≡ startedWith n)
-  -- kept::insert
+  -- insert::insert
   pub insert : (events : List ℕ) (n w : ℕ) → Once (ℕ × List ℕ) (λ r. (r .0 ≡ insertedCount (length events) n) × (r .1 ≡ insertedList events n w))
   -- kept::after_request
   pub after-request : (events : List ℕ) (kept : Kept) (code w : ℕ)

@@ -15,10 +15,10 @@ use Rattle.rules.specs.Ranges.{ticks}
 use Rattle.event.specs.Word.{tickOf, kindOf, numberOf}
 use Rattle.group.specs.Accepted.{RequestAccepted}
 use Rattle.group.specs.declared.Group.{Group}
-use Rattle.kept.specs.Inserted.{inserted, insertedList, insertedCount}
+use Rattle.insert.specs.Inserted.{inserted, insertedList, insertedCount}
 use Rattle.kept.specs.Kept.{startedWith}
 use Rattle.kept.specs.declared.Kept.{Kept}
-use Rattle.kept.proofs.Among.{place, place-inside, length-inserted, take-inserted}
+use Rattle.insert.proofs.Among.{place, place-inside, length-inserted, take-inserted}
 use Rattle.saved.specs.Saved.{upTo}
 use Rattle.saved.proofs.Ordered.{Ordered, behind-closed, closed-same, all-closed}
 

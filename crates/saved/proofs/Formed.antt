@@ -17,8 +17,8 @@ use Rattle.records.specs.Records.{outside, carrierOf, lastOf, breaks, recordRef
 use Rattle.tick.specs.Tick.{notGreater}
 use Rattle.records.proofs.Pass.{Inside, Good, good, formed-rises}
 use Rattle.tick.proofs.Part.{climb}
-use Rattle.kept.specs.Inserted.{inserted}
-use Rattle.kept.proofs.Among.{place, place-inside, place-from, place-last, at-before, at-place, at-behind, length-inserted}
+use Rattle.insert.specs.Inserted.{inserted}
+use Rattle.insert.proofs.Among.{place, place-inside, place-from, place-last, at-before, at-place, at-behind, length-inserted}
 use Rattle.saved.proofs.Lasts.{last-same, last-before, last-other, last-stays}
 
 -- a good record is not refused

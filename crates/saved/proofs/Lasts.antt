@@ -11,8 +11,8 @@ use lib.ListN.{length, getD}
 use borrow.Author.Tests.{eqb-true, eqb-false, eq-eqb, ne-eqb}
 use Rattle.base.proofs.Truth.{either}
 use Rattle.records.specs.Records.{carrierOf, lastOf}
-use Rattle.kept.specs.Inserted.{inserted}
-use Rattle.kept.proofs.Among.{place, place-inside, at-before, at-place, at-behind, length-inserted}
+use Rattle.insert.specs.Inserted.{inserted}
+use Rattle.insert.proofs.Among.{place, place-inside, at-before, at-place, at-behind, length-inserted}
 
 -- what holds at a place and goes on from each to the next, holds from it on
 pub from : (at : ℕ) (P : ℕ → Type 0) → P at → ((j : ℕ) → at ≤ j → P j → P (suc j)) → (j : ℕ) → at ≤ j → P j

@@ -27,9 +27,9 @@ use Rattle.book.proofs.Accepted.{read-code, read-headed, read-formed, good-read
 use Rattle.tick.proofs.Part.{climb}
 use Rattle.records.proofs.Pass.{good, formed-rises}
 use Rattle.replay.proofs.Replaying.{replay-reached}
-use Rattle.kept.specs.Inserted.{inserted}
+use Rattle.insert.specs.Inserted.{inserted}
 use Rattle.kept.specs.Kept.{recordsOf}
-use Rattle.kept.proofs.Among.{place, place-inside, place-behind}
+use Rattle.insert.proofs.Among.{place, place-inside, place-behind}
 use Rattle.saved.specs.Keeping.{freshKeeping, bookKeeping}
 use Rattle.saved.specs.Saved.{upTo, bookReached}
 use Rattle.saved.proofs.Order.{inOrder, order-more}

@@ -11,8 +11,8 @@ use Rattle.base.proofs.Truth.{either}
 use Rattle.event.specs.Word.{tickOf}
 use Rattle.base.specs.Keep.{keep}
 use Rattle.base.proofs.Keep.{keep-append}
-use Rattle.kept.specs.Inserted.{inserted}
-use Rattle.kept.proofs.Among.{place, length-inserted}
+use Rattle.insert.specs.Inserted.{inserted}
+use Rattle.insert.proofs.Among.{place, length-inserted}
 use Rattle.saved.specs.Saved.{upTo, howOften}
 
 -- the words, and then the events one after the other, each in its place

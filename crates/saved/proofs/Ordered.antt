@@ -35,8 +35,8 @@ use Rattle.replay.specs.Replay.{counted}
 use Rattle.replay.proofs.Carriers.{codeOf, own-code, Known, start-known, close-known, mark-known}
 use Rattle.records.proofs.Pass.{Inside, good, formed-rises}
 use Rattle.tick.proofs.Part.{climb}
-use Rattle.kept.specs.Inserted.{inserted}
-use Rattle.kept.proofs.Among.{place, place-behind, place-from, take-inserted}
+use Rattle.insert.specs.Inserted.{inserted}
+use Rattle.insert.proofs.Among.{place, place-behind, place-from, take-inserted}
 use Rattle.saved.specs.Saved.{upTo}
 use Rattle.saved.proofs.Lasts.{last-all}
 use Rattle.saved.proofs.Formed.{formed-later, formed-inserted}

@@ -21,7 +21,7 @@ use Rattle.event.proofs.Carrier.{sheet-number}
 use Rattle.group.proofs.Close.{closed-closed}
 use Rattle.history.specs.Run.{Move, request, close, Reached, step, run, fresh}
 use Rattle.base.specs.Keep.{keep}
-use Rattle.kept.specs.Inserted.{insertedList, insertedCount}
+use Rattle.insert.specs.Inserted.{insertedList, insertedCount}
 use Rattle.kept.specs.Kept.{openWord}
 use Rattle.kept.specs.declared.Kept.{Kept}
 use Rattle.saved.specs.Keeping.{Keeping, keepStep, keepRun, freshKeeping}

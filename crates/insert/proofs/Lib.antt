@@ -1,0 +1,3 @@
+-- Laws of a word inserted.
+pub mod Among
+pub mod Inserted
