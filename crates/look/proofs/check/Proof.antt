@@ -1,4 +1,4 @@
--- `delivery::check::check` meets its contract. Its invariant is `Sums`: the sums of the granted sheets below the sheet at hand, none of which is faulty.
+-- `look::check` meets its contract. Its invariant is `Sums`: the sums of the granted sheets below the sheet at hand, none of which is faulty.
 -- Assumes nothing.
 use mathlib.Core.Path.{_≡_, sym, ap, ap₂, _∙_}
 use mathlib.Core.Bool.{true, false}

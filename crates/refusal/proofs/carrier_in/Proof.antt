@@ -1,4 +1,4 @@
--- `request::carrier_in` meets its contract.
+-- `refusal::carrier_in` meets its contract.
 use borrow.Author.Tests.{lt-ltb, le-ltb}
 use Rattle.refusal.proofs.carrier_in.Statement.{statement}
 use Rattle.refusal.proofs.carrier_in.Tie as tie

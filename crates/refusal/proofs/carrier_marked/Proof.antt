@@ -1,4 +1,4 @@
--- `request::carrier_marked` meets its contract.
+-- `refusal::carrier_marked` meets its contract.
 use borrow.Author.Tests.{lt-ltb, le-ltb}
 use Rattle.refusal.proofs.carrier_marked.Statement.{statement}
 use Rattle.refusal.proofs.carrier_marked.Tie as tie

@@ -1,4 +1,4 @@
--- `request::model_marked` meets its contract.
+-- `refusal::model_marked` meets its contract.
 use borrow.Author.Needs.{needs}
 use Rattle.refusal.proofs.model_marked.Statement.{statement}
 use Rattle.refusal.proofs.model_marked.Tie as tie

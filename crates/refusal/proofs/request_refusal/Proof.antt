@@ -1,4 +1,4 @@
--- `request::request_refusal` meets its contract: past the ranges the four tests are those of the definition, in its order.
+-- `refusal::request_refusal` meets its contract: past the ranges the four tests are those of the definition, in its order.
 use mathlib.Core.Path.{_≡_, sym, subst}
 use mathlib.Core.Bool.{Bool, cond}
 use Prim.Native.Nat.{ℕ, _<_}

@@ -1,4 +1,4 @@
--- `request::sheet_marked` meets its contract.
+-- `refusal::sheet_marked` meets its contract.
 use borrow.Author.Needs.{needs}
 use Rattle.refusal.proofs.sheet_marked.Statement.{statement}
 use Rattle.refusal.proofs.sheet_marked.Tie as tie
