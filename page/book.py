@@ -47,10 +47,12 @@ def said(program, content):
     except (OSError, subprocess.SubprocessError, UnicodeDecodeError) as error:
         raise Unfit(f"{program} failed: {error}") from None
     refused = REFUSED.fullmatch(text)
-    if refused:
-        number, place = refused.groups()
-        raise Refused(int(number), None if place is None else int(place))
-    return text
+    if not refused:
+        return text
+    number, place = refused.groups()
+    if int(number) not in MEANINGS:
+        raise Unfit(f"{program} refuses the book by {number}, which no book is refused by")
+    raise Refused(int(number), None if place is None else int(place))
 
 
 def lines_between(text, last_word):
@@ -66,7 +68,10 @@ class Book:
 
     def __init__(self, content, spans_program, listing_program):
         self.spans_text = said(spans_program, content)
-        self.listing_text = said(listing_program, content)
+        try:
+            self.listing_text = said(listing_program, content)
+        except Refused:
+            raise Unfit("spans takes the book and listing refuses it") from None
         self.sha256 = hashlib.sha256(content).hexdigest()
         self.read_first_line()
         self.read_spans()

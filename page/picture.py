@@ -64,10 +64,10 @@ class Picture:
         """A row in words: add 4..56; join 65..180 open, latest: add 102."""
         parts = []
         for span in self.book.spans[model, sheet]:
-            parts.append("%s %d..%d" % (self.book.kind(sheet, span), *span))
+            parts.append("%s\N{NO-BREAK SPACE}%d..%d" % (self.book.kind(sheet, span), *span))
             if self.book.is_open(span):
                 kind, tick = self.book.moments[model, sheet]
-                parts[-1] += " open" + (f", latest: {kind} {tick}" if tick > span[0] else "")
+                parts[-1] += " open" + (f", latest: {kind}\N{NO-BREAK SPACE}{tick}" if tick > span[0] else "")
         return "; ".join(parts)
 
     def drawing(self, model, sheet):
@@ -78,15 +78,14 @@ class Picture:
                 marks["add"] += f"M{first - 1} 0V{ROW_HEIGHT}"
             else:
                 marks["join"] += f"M{first - 1} {MIDDLE}h0"
-        paths = [("bar", bars), *marks.items()]
-        drawn = "".join(f'<path class={kind} d="{path}"/>' for kind, path in paths if path)
+        drawn = f'<path d="{bars}"/>' + "".join(f'<path class={kind} d="{path}"/>' for kind, path in marks.items() if path)
         box = f'viewBox="0 0 {self.book.ticks} {ROW_HEIGHT}" preserveAspectRatio=none'
         return f"<svg aria-hidden=true {box}>{drawn}</svg>"
 
     def row(self, model, sheet):
         still_open = self.book.is_open(self.book.spans[model, sheet][-1])
         label = self.label("sheet", sheet, CUT)
-        cells = f"<th scope=row>{label}<td>{self.drawing(model, sheet)}<td>{self.words(model, sheet)}"
+        cells = f"<th>{label}<td>{self.drawing(model, sheet)}<td>{self.words(model, sheet)}"
         return f"<tr{' class=open' if still_open else ''}>{cells}\n"
 
     def step(self):
@@ -155,7 +154,7 @@ class Picture:
     def bare(self, model):
         """A model without a span is said in words."""
         events = "" if model in self.book.models else " The book has no event of it."
-        return f"<p class=bare>{self.heading(model)} It could read no sheet at any tick.{events}\n"
+        return f"<div class=bare>{self.heading(model)} It could read no sheet at any tick.{events}</div>\n"
 
     def without(self):
         """What has no row, in words: the sheets that nobody could read, and who isn't in the book."""
