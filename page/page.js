@@ -189,34 +189,33 @@ async function answer(pairs, asked) {
 
 /* ---- Form and address ---- */
 
+let told = ""; // the address of the answer that is shown
+
+/* Answers what is asked, or says what is wrong with it. */
 function tell(pairs, values) {
-  let asked;
   try {
-    asked = questionIn(values);
+    const asked = questionIn(values);
+    told = addressOf(asked);
+    answer(pairs, asked);
   } catch (error) {
+    told = "";
     turn++;
-    return put("wrong", [], [error.message], []);
+    put("wrong", [], [error.message], []);
   }
-  return answer(pairs, asked);
 }
 
 /* What the address asks is put into the form and answered; an address that asks nothing is left alone. */
 function followAddress(pairs) {
   const values = new URLSearchParams(location.hash.slice(1));
-  if (!FIELDS.every(field => values.has(field))) return;
+  if (location.hash === told || !FIELDS.every(field => values.has(field))) return;
   for (const field of FIELDS) form.elements[field].value = values.get(field);
   tell(pairs, values);
 }
 
-/* A question that can be answered gets its address, and is answered from there. */
+/* What the form asks is answered, and the answer gets its address. */
 function askForm(pairs) {
-  const values = new FormData(form);
-  let address = location.hash;
-  try {
-    address = addressOf(questionIn(values));
-  } catch { /* tell says what is wrong */ }
-  if (address === location.hash) tell(pairs, values);
-  else location.hash = address;
+  tell(pairs, new FormData(form));
+  if (told) location.hash = told;
 }
 
 function start(pairs) {

@@ -90,7 +90,7 @@ class Picture:
 
     def step(self):
         """The scale's step: 1, 2 or 5 times a power of ten, so that its numbers have room."""
-        most = WIDE // (SIGN * (len(str(self.book.ticks)) + 1))
+        most = WIDE // (SIGN * (len(str(self.book.ticks)) + 3))
         power = 1
         while True:
             for step in (power, 2 * power, 5 * power):

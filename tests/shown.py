@@ -7,7 +7,7 @@ from html.parser import HTMLParser
 
 VOID = {"meta", "input", "br"}
 # Elements that end where the next of these begins.
-ENDED_BY = {"th": ("th", "td", "tr", "tbody"), "td": ("th", "td", "tr", "tbody"), "tr": ("tr", "tbody"), "p": ("p", "div", "details", "ul"), "li": ("li",)}
+ENDED_BY = {"th": ("th", "td", "tr", "tbody"), "td": ("th", "td", "tr", "tbody"), "tr": ("tr", "tbody"), "p": ("p", "div", "details", "ul"), "li": ("li",), "dt": ("dd",)}
 
 
 class Element:
