@@ -9,6 +9,28 @@ pub fn since(t: usize, p: impl Fn(usize) -> bool, q: impl Fn(usize) -> bool) -> 
     (0..=t).rev().any(|j| q(j) && (j + 1..=t).all(&p))
 }
 
+/// "p since q" at each of so many ticks, in one pass, so that a long history takes no longer than
+/// it has to: j can't be earlier than the latest tick at which p didn't hold, and p isn't asked for
+/// at j itself; so the latest q decides.
+pub fn since_at_each(
+    ticks: usize,
+    p: impl Fn(usize) -> bool,
+    q: impl Fn(usize) -> bool,
+) -> Vec<bool> {
+    let (mut latest_q, mut latest_without_p) = (None, None);
+    let holds_at = |t| {
+        if q(t) {
+            latest_q = Some(t);
+        }
+        if !p(t) {
+            latest_without_p = Some(t);
+        }
+        // Where p held at every tick there is none without it, and that is less than any.
+        latest_q.is_some() && latest_q >= latest_without_p
+    };
+    (0..ticks).map(holds_at).collect()
+}
+
 /// What one tick holds for the pair.
 #[derive(Clone, Copy, Debug)]
 pub struct Happening {
@@ -57,6 +79,11 @@ impl History {
             ticks.push(happening);
         }
         History { ticks }
+    }
+
+    /// The place of a tick, where the history has it.
+    pub fn place_of(&self, tick: u32) -> Option<usize> {
+        self.ticks.binary_search_by_key(&tick, |happening| happening.tick).ok()
     }
 
     /// One of these kinds of event happened at the tick.
@@ -112,6 +139,34 @@ impl History {
     /// The grant at a tick: either formula holds there.
     pub fn grant_at(&self, t: usize) -> bool {
         self.first(t) || self.second(t)
+    }
+
+    /// Which ticks are moments by add, and which by join: each bracket at every tick, in one pass.
+    /// The unit tests want these and `grants` equal to what is asked of one tick.
+    pub fn moments(&self) -> (Vec<bool>, Vec<bool>) {
+        let places = 0..self.ticks.len();
+        let is_in = since_at_each(
+            places.end,
+            |k| !self.has(k, &[Kind::SL, Kind::LL]),
+            |j| self.has(j, &[Kind::SJ, Kind::LJ]),
+        );
+        let is_in_by_liberal_add = since_at_each(
+            places.end,
+            |k| !self.has(k, &[Kind::SR, Kind::LR]),
+            |j| self.has(j, &[Kind::LA]),
+        );
+        let by_add = |t| self.has(t, &[Kind::SA, Kind::LA]) && is_in[t];
+        let by_join = |t| self.has(t, &[Kind::LJ]) && is_in_by_liberal_add[t];
+        (places.clone().map(by_add).collect(), places.map(by_join).collect())
+    }
+
+    /// The grant at each tick, likewise.
+    pub fn grants(&self) -> Vec<bool> {
+        let goes_on = |k| !self.has(k, &[Kind::SL, Kind::SR]);
+        let (by_add, by_join) = self.moments();
+        let first = since_at_each(self.ticks.len(), goes_on, |j| by_add[j]);
+        let second = since_at_each(self.ticks.len(), goes_on, |j| by_join[j]);
+        first.iter().zip(second).map(|(first, second)| *first || second).collect()
     }
 
     /// The grant at the end of the history.

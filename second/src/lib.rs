@@ -4,6 +4,7 @@
 //! It exists to be compared with the gate; where the two differ, one of them is wrong.
 
 pub mod answers;
+pub mod bars;
 pub mod book;
 pub mod event;
 pub mod files;
@@ -16,6 +17,7 @@ pub mod limits;
 pub mod listing;
 pub mod record;
 pub mod refusal;
+pub mod seen;
 pub mod spans;
 pub mod spans_of_book;
 pub mod store;

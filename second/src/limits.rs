@@ -26,7 +26,7 @@ pub const DELIVERY_SHEET: u64 = 8;
 /// Most groups in a station's list.
 pub const STATION_GROUPS: usize = 16;
 
-/// The most digits in an argument of `spans`.
+/// The most digits in an argument of `spans`, and in a number of a question to `seen`.
 pub const ARGUMENT_DIGITS: usize = 20;
 
 /// The keeper's own limits.

@@ -26,20 +26,22 @@ impl Asked {
         }
         let carriers = |place: usize, side: Side| match arguments.get(place) {
             None => Some(0..side.carriers()),
-            Some(argument) => number(argument.as_ref(), side).map(|number| number..number + 1),
+            Some(argument) => {
+                number(argument.as_ref(), side.carriers()).map(|number| number..number + 1)
+            }
         };
         Some(Asked { models: carriers(0, Side::Model)?, sheets: carriers(1, Side::Sheet)? })
     }
 }
 
-/// A decimal number of a carrier: digits only, not too many of them.
-fn number(argument: &[u8], side: Side) -> Option<u32> {
+/// A decimal number below a limit: digits only, not too many of them.
+pub fn number(argument: &[u8], limit: u32) -> Option<u32> {
     let digits = (1..=ARGUMENT_DIGITS).contains(&argument.len());
     if !digits || !argument.iter().all(u8::is_ascii_digit) {
         return None;
     }
     let number = argument.iter().fold(0, |sum: u128, digit| sum * 10 + u128::from(digit - b'0'));
-    (number < u128::from(side.carriers())).then_some(number as u32)
+    (number < u128::from(limit)).then_some(number as u32)
 }
 
 /// The whole output for a book; a refused one is one line.

@@ -16,6 +16,8 @@ use crate::store::deliver;
 use crate::wrong::{spans_by, verdict_by, Reading, READINGS};
 use std::mem::size_of;
 
+mod page;
+
 const FIRST_BOOK: [u32; 8] = [4610, 6144, 9730, 14849, 16386, 16901, 24065, 27648];
 
 fn bytes(words: &[u32]) -> Vec<u8> {
@@ -492,21 +494,27 @@ fn the_law_of_one_tick_agrees_with_the_formula() {
     }
 }
 
-/// Both ways to the spans agree on every history of four ticks and one more; and a wrong
-/// reading's spans, too, end at now where its verdict there is a grant.
-#[test]
-fn the_spans_tick_by_tick() {
-    const TICKS: u32 = 4;
-    for code in 0..9_u32.pow(TICKS) {
+/// Every history of so many ticks: the events of carrier 0 on both sides.
+fn every_history(ticks: u32) -> impl Iterator<Item = (Vec<Event>, Vec<Event>)> {
+    (0..9_u32.pow(ticks)).map(move |code| {
         let mut group = Group::default();
-        for tick in 0..TICKS {
+        for tick in 0..ticks {
             let choices = code / 9_u32.pow(tick) % 9;
             for (side, choice) in [(Side::Model, choices % 3), (Side::Sheet, choices / 3)] {
                 choose(&group, side, choice).map(|kind| group.request(kind, 0));
             }
             group.close().unwrap();
         }
-        let (model, sheet) = (group.strip(Side::Model, 0), group.strip(Side::Sheet, 0));
+        (group.strip(Side::Model, 0), group.strip(Side::Sheet, 0))
+    })
+}
+
+/// Both ways to the spans agree on every history of four ticks and one more; and a wrong
+/// reading's spans, too, end at now where its verdict there is a grant.
+#[test]
+fn the_spans_tick_by_tick() {
+    const TICKS: u32 = 4;
+    for (model, sheet) in every_history(TICKS) {
         let now = TICKS + 1;
         let found = spans_of_history(&History::of_event_ticks(&model, &sheet), now);
         assert_eq!(found, spans_tick_by_tick(&model, &sheet, now), "{model:?} {sheet:?}");

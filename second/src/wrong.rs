@@ -1,9 +1,11 @@
 //! The readings that look right and aren't (RULES.md 15), on purpose: the programs take
 //! one from the environment as SECOND_WRONG, so that `compare` can be seen to find it.
 
+use crate::bars::beginnings;
 use crate::event::{Event, Kind};
 use crate::formula::History;
 use crate::judge::{verdict, Cause, Moment, Verdict};
+use crate::seen::earliest;
 use crate::spans::{joined, spans_of_history, Span};
 
 #[derive(Clone, Copy, Debug, Default, PartialEq, Eq)]
@@ -18,6 +20,13 @@ pub enum Reading {
     Latest,
     /// Refuses a delivery for a fault in an ungranted entry.
     Entry,
+}
+
+impl Reading {
+    /// It takes the formula as it is; what it has wrong is a delivery, if anything.
+    fn has_the_formula(self) -> bool {
+        matches!(self, Reading::Right | Reading::Entry)
+    }
 }
 
 pub const READINGS: [(&str, Reading); 4] = [
@@ -55,18 +64,48 @@ pub fn verdict_by(reading: Reading, model: &[Event], sheet: &[Event]) -> Verdict
 /// an event, and its answer stands up to the next.
 pub fn spans_by(reading: Reading, model: &[Event], sheet: &[Event], now: u32) -> Vec<Span> {
     let history = History::of_event_ticks(model, sheet);
-    if matches!(reading, Reading::Right | Reading::Entry) {
+    if reading.has_the_formula() {
         return spans_of_history(&history, now);
     }
-    let up_to = |strip: &[Event], tick| strip.partition_point(|event| event.tick <= tick);
-    let grants = |tick| {
-        let (model, sheet) = (&model[..up_to(model, tick)], &sheet[..up_to(sheet, tick)]);
-        verdict_by(reading, model, sheet).is_granted()
-    };
+    let grants = |tick| verdict_as_of(reading, model, sheet, tick).is_granted();
     let firsts = history.ticks.iter().map(|happening| happening.tick);
     let lasts = firsts.clone().skip(1).map(|next| next - 1).chain([now]);
     let parts = firsts.zip(lasts).map(|(first, last)| Span { first, last });
     joined(parts.filter(|part| grants(part.first)))
+}
+
+/// The moments that begin a reading's spans: of a wrong one, those that its verdicts as of their
+/// first ticks rest on.
+pub fn beginnings_by(
+    reading: Reading,
+    model: &[Event],
+    sheet: &[Event],
+    spans: &[Span],
+) -> Vec<Moment> {
+    if reading.has_the_formula() {
+        return beginnings(&History::of_event_ticks(model, sheet), spans);
+    }
+    let named = |span: &Span| match verdict_as_of(reading, model, sheet, span.first) {
+        Verdict::Granted(moment) => moment,
+        Verdict::Denied(_) => panic!("the grant holds at a span's first tick"),
+    };
+    spans.iter().map(named).collect()
+}
+
+/// The earliest tick at which a reading grants: of a wrong one, as of each tick with an event.
+pub fn earliest_by(reading: Reading, model: &[Event], sheet: &[Event]) -> Option<u32> {
+    let history = History::of_event_ticks(model, sheet);
+    if reading.has_the_formula() {
+        return earliest(&history);
+    }
+    let grants = |tick: &u32| verdict_as_of(reading, model, sheet, *tick).is_granted();
+    history.ticks.iter().map(|happening| happening.tick).find(grants)
+}
+
+/// The verdict of a reading on the strips of one pair, as of a tick.
+fn verdict_as_of(reading: Reading, model: &[Event], sheet: &[Event], tick: u32) -> Verdict {
+    let up_to = |strip: &[Event]| strip.partition_point(|event| event.tick <= tick);
+    verdict_by(reading, &model[..up_to(model)], &sheet[..up_to(sheet)])
 }
 
 fn today(model: &[Event], sheet: &[Event]) -> Verdict {
