@@ -109,13 +109,14 @@ function found(pairs, { model, tick, sheets }) {
 }
 
 function question({ model, tick, sheets }) {
+  const [noun, pronoun] = sheets.length === 1 ? ["sheet", "it"] : ["sheets", "them"];
   return ["Model ", ...label("model", model), " was scored at tick ", ...label("tick", tick),
-    ` on held-out ${sheets.length === 1 ? "sheet" : "sheets"} ${ranges(sheets, ", ")}. Had it seen ${sheets.length === 1 ? "it" : "them"}?`];
+    ` on held-out ${noun} ${ranges(sheets, ", ")}. Had it seen ${pronoun}?`];
 }
 
-function verdict({ model, tick }, { clean, earliest, rows }) {
+function verdict({ model, tick, sheets }, { clean, earliest, rows }) {
   if (clean) return [element("strong", {}, "Clean."), " Model ", ...label("model", model),
-    " could read none of them in tick ", ...label("tick", tick), " or before."];
+    ` could ${sheets.length === 1 ? "not read it" : "read none of them"} in tick `, ...label("tick", tick), " or before."];
   const { sheet } = rows.find(({ spans }) => spans.some(([first]) => first === earliest));
   return [element("strong", {}, "Not clean."), " The earliest tick is ", ...label("tick", earliest),
     ": model ", ...label("model", model), " could then read sheet ", ...label("sheet", sheet), "."];

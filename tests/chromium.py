@@ -38,7 +38,7 @@ class Chromium:
                                         stdin=subprocess.DEVNULL, stdout=subprocess.DEVNULL, stderr=subprocess.DEVNULL)
         os.close(its_input)
         os.close(its_output)
-        self.pending, self.number, self.events, self.session = b"", 0, [], None
+        self.pending, self.number, self.events, self.session, self.patience = b"", 0, [], None, PATIENCE
         tab = next(target for target in self.call("Target.getTargets")["targetInfos"] if target["type"] == "page")
         self.session = self.call("Target.attachToTarget", targetId=tab["targetId"], flatten=True)["sessionId"]
         for domain in ("Page", "Runtime", "Network", "Log", "DOM"):
@@ -95,7 +95,7 @@ class Chromium:
 
     def wait(self, script):
         """Waits until a script's value is true."""
-        until = time.monotonic() + PATIENCE
+        until = time.monotonic() + self.patience
         while not self.run(script):
             if time.monotonic() > until:
                 raise RuntimeError(f"never true: {script}")
