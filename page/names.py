@@ -26,6 +26,11 @@ def quoted(text):
     return ascii(text if len(text) <= QUOTED else text[:QUOTED] + "...")
 
 
+def cut(name, most):
+    """A name's first signs, where it is longer."""
+    return name if len(name) <= most else name[: most - 1] + "…"
+
+
 def named(line):
     """The kind, number and name of a line; a ValueError says what is wrong with it."""
     for sign in line:

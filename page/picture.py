@@ -5,17 +5,13 @@ The marks at a bar's start keep their size (page.css), so that a bar of one tick
 """
 from html import escape
 
-from names import RANGES
+from names import RANGES, cut
+from scale import Scale
 
 ROW_HEIGHT = 10
 MIDDLE = ROW_HEIGHT // 2
 CUT = 40  # signs of a name in a row, where it stands once for each model
 FEW = 12  # as many sheets are told by their names, more by numbers alone
-
-# The scale is laid out for a drawing of this width; a wider one has room to spare.
-NARROW = 300
-WIDE = 480
-SIGN = 8  # pixels that a sign takes
 
 
 def ranges(numbers):
@@ -27,10 +23,6 @@ def ranges(numbers):
         else:
             runs.append([number, number])
     return ", ".join(str(first) if first == last else f"{first}-{last}" for first, last in runs)
-
-
-def cut(name, most):
-    return name if len(name) <= most else name[: most - 1] + "…"
 
 
 def counted(number, thing):
@@ -45,7 +37,7 @@ class Picture:
         self.rows = {model: [] for model in self.models}
         for model, sheet in sorted(book.spans):
             self.rows[model].append(sheet)
-        self.scale = self.scale_of_ticks() if book.ticks else ""
+        self.scale = Scale(book.ticks, names["tick"]).drawn() if book.ticks else ""
 
     def label(self, kind, number, most=None):
         """The number, and the name as it was typed."""
@@ -87,53 +79,6 @@ class Picture:
         label = self.label("sheet", sheet, CUT)
         cells = f"<th>{label}<td>{self.drawing(model, sheet)}<td>{self.words(model, sheet)}"
         return f"<tr{' class=open' if still_open else ''}>{cells}\n"
-
-    def step(self):
-        """The scale's step: 1, 2 or 5 times a power of ten, so that its numbers have room."""
-        most = WIDE // (SIGN * (len(str(self.book.ticks)) + 3))
-        power = 1
-        while True:
-            for step in (power, 2 * power, 5 * power):
-                if self.book.ticks <= step * most:
-                    return step
-            power *= 10
-
-    def at(self, tick):
-        """Where a tick's middle is, as a share of the width."""
-        return (tick - 0.5) / self.book.ticks
-
-    def fitting(self, labels, width):
-        """Labels by tick, but for those that would run into the one before at this width; each
-        with where it is anchored and at which share of the width."""
-        shown, free = {}, 0
-        for tick, text in labels:
-            length = SIGN * len(text)
-            left = min(max(0, self.at(tick) * width - length / 2), max(0, width - length))
-            if left >= free:
-                edge = {0: ("left", 0), width - length: ("right", 1)}
-                shown[tick] = edge.get(left, ("middle", self.at(tick)))
-                free = left + length + SIGN
-        return shown
-
-    def line_of_scale(self, labels, y):
-        """A line of the scale; what a narrow window has no room for is marked as such."""
-        line, narrow = "", self.fitting(labels, NARROW)
-        for tick, (side, at) in self.fitting(labels, WIDE).items():
-            spare = "" if tick in narrow else " wide"
-            line += f'<text class="{side}{spare}" x="{at:.4%}" y={y}>{escape(dict(labels)[tick])}</text>'
-        return line
-
-    def scale_of_ticks(self):
-        """Numbers at even steps, and below them the ticks' names."""
-        ticks, step = self.book.ticks, self.step()
-        numbers = [(tick, str(tick)) for tick in range(step, ticks + 1, step)]
-        names = [(tick, cut(name, CUT // 2)) for tick, name in sorted(self.names["tick"].items()) if tick <= ticks]
-        named = " class=named" if names else ""
-        return f"<svg aria-hidden=true{named}>{self.line_of_scale(numbers, 12)}{self.line_of_scale(names, 28)}</svg>"
-
-    def grid(self):
-        """How far apart the lines of the grid are, as a share of the width."""
-        return f"{self.step() / self.book.ticks:.4%}" if self.book.ticks else "100%"
 
     def heading(self, model):
         could = len(self.rows[model])

@@ -9,6 +9,7 @@ from html import escape
 
 import book
 from picture import Picture, counted
+from scale import Scale
 
 HERE = pathlib.Path(__file__).parent
 OPEN_ROWS = 1_000  # more rows than these are folded, a band a model
@@ -95,7 +96,8 @@ def page_of(told, named):
     drawn, pack = whole_picture(picture)
     pack_spans = len(told.spans_text) > PLAIN_BYTES
     script = (HERE / "page.js").read_text()
-    style = filled((HERE / "page.css").read_text(), {"grid": picture.grid()})
+    grid = Scale(told.ticks, {}).grid() if told.ticks else "100%"
+    style = filled((HERE / "page.css").read_text(), {"grid": grid})
     known = {"ticks": told.ticks, "models": sorted(picture.models), "names": named}
     return filled(
         (HERE / "page.html").read_text(),
