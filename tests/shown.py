@@ -103,7 +103,7 @@ class Shown:
             sheet = int(re.match("[0-9]+", label.text())[0])
             assert (model, sheet) not in self.rows
             still_open = row.attributes.get("class") == "open"
-            self.rows[model, sheet] = label.text().strip(), bars(drawing.one("svg"), still_open), words.text().strip()
+            self.rows[model, sheet] = label.text().strip("\n"), bars(drawing.one("svg"), still_open), words.text().strip()
 
 
 def numbers(text):
