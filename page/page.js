@@ -3,6 +3,7 @@
    `spans` printed and decides no grant. Names are put into the page as text, never as markup. */
 const LAST_MODEL = 63, LAST_SHEET = 255;
 const FIELDS = ["model", "tick", "sheets"];
+const NO_EVENT = "no event in the book";
 const CANT_UNPACK = "This browser can't unpack what the page holds; a newer one can.";
 const by = id => document.getElementById(id);
 const known = JSON.parse(by("known").textContent);
@@ -73,20 +74,23 @@ function numberIn(text, last, kind) {
 /* The sheets of a text such as 7, 9-12: rising, each once. */
 function sheetsIn(text) {
   const sheets = new Set();
-  for (const part of text.replace(/\s*[-–]\s*/g, "-").split(/[\s,;]+/).filter(Boolean)) {
+  for (const part of text.replace(/\s*(?:[-–—−]|\.\.)\s*/g, "-").split(/[\s,;]+/).filter(Boolean)) {
+    if (!/^[0-9]+(-[0-9]+)?$/.test(part)) throw new Error(`“${part}” is no sheet and no range of sheets. Type them as 7, 9-12.`);
     const ends = part.split("-").map(end => numberIn(end, LAST_SHEET, "sheet"));
     const [first, last] = [ends[0], ends.at(-1)];
-    if (ends.length > 2 || last < first) throw new Error(`“${part}” is no range of sheets, such as 9-12.`);
+    if (last < first) throw new Error(`“${part}” falls. Type the lower sheet first, as 9-12.`);
     for (let sheet = first; sheet <= last; sheet++) sheets.add(sheet);
   }
-  if (!sheets.size) throw new Error("Which sheets were held out? Type their numbers, such as 7, 9-12.");
+  if (!sheets.size) throw new Error("Which sheets were held out? Type their numbers, as 7, 9-12.");
   return [...sheets].sort((one, other) => one - other);
 }
 
+/* A tick by its number, or by its name where just one tick has it. */
 function tickIn(text) {
   if (/^[0-9]+$/.test(text) && Number(text) > known.ticks)
     throw new Error(`The book's last closed tick is ${known.ticks}: it tells nothing of tick ${text}.`);
-  return numberIn(text, known.ticks, "tick");
+  const named = Object.keys(known.names.tick).filter(tick => known.names.tick[tick] === text);
+  return numberIn(/^[0-9]+$/.test(text) || named.length !== 1 ? text : named[0], known.ticks, "tick");
 }
 
 function questionIn(values) {
@@ -98,11 +102,12 @@ const addressOf = ({ model, tick, sheets }) => `#model=${model}&tick=${tick}&she
 
 /* ---- What is answered ---- */
 
-/* For each sheet the spans that begin no later than the tick, and the earliest tick of all of them. */
+/* For each sheet the spans that begin no later than the tick, and the first that begins later; and the
+   earliest tick of all. */
 function found(pairs, { model, tick, sheets }) {
   const rows = sheets.map(sheet => {
     const spans = pairs.get(`${model} ${sheet}`) || [];
-    return { sheet, spans: spans.filter(([first]) => first <= tick) };
+    return { sheet, spans: spans.filter(([first]) => first <= tick), later: spans.find(([first]) => first > tick) };
   });
   const firsts = rows.flatMap(({ spans }) => spans.map(([first]) => first));
   return { rows, clean: !firsts.length, earliest: Math.min(...firsts) };
@@ -115,15 +120,27 @@ function question({ model, tick, sheets }) {
 }
 
 function verdict({ model, tick, sheets }, { clean, earliest, rows }) {
-  if (clean) return [element("strong", {}, "Clean."), " Model ", ...label("model", model),
+  if (clean) return [element("strong", {}, "Clean."), ` Through group ${known.group}, model `, ...label("model", model),
     ` could ${sheets.length === 1 ? "not read it" : "read none of them"} in tick `, ...label("tick", tick), " or before."];
   const { sheet } = rows.find(({ spans }) => spans.some(([first]) => first === earliest));
   return [element("strong", {}, "Not clean."), " The earliest tick is ", ...label("tick", earliest),
     ": model ", ...label("model", model), " could then read sheet ", ...label("sheet", sheet), "."];
 }
 
-function inWords({ tick }, spans) {
-  if (!spans.length) return ["never before tick ", ...label("tick", tick), ", nor in it"];
+/* Clean is easily had for a number that isn't in the book. */
+function doubt({ model, sheets }, { clean }) {
+  const strange = sheets.filter(sheet => !known.events.sheet.includes(sheet)), told = [];
+  if (!known.events.model.includes(model)) told.push(`model ${model}`);
+  if (strange.length) told.push(`${strange.length === 1 ? "sheet" : "sheets"} ${ranges(strange, ", ")}`);
+  if (!clean || !told.length) return [];
+  return [" ", element("strong", {}, `But the book has no event of ${told.join(", nor of ")}:`), " are these the right numbers, and is it the right book?"];
+}
+
+function inWords({ tick }, spans, later) {
+  if (!spans.length) {
+    const next = later ? ["; first in tick ", ...label("tick", later[0])] : [];
+    return ["never before tick ", ...label("tick", tick), ", nor in it", ...next];
+  }
   const told = spans.flatMap(([first, last]) => [", ", ...label("tick", first), "..", ...label("tick", last)]);
   return ["could read in ", ...told.slice(1)];
 }
@@ -144,13 +161,14 @@ function sheetTable(asked, { rows }) {
   const drawn = new Map();
   for (const line of band ? band.querySelectorAll("tbody tr") : []) drawn.set(parseInt(line.cells[0].textContent, 10), line);
   const copied = (place, what) => place && place.querySelector(what) ? [place.querySelector(what).cloneNode(true)] : [];
-  const lines = rows.map(({ sheet, spans }) => {
+  const lines = rows.map(({ sheet, spans, later }) => {
     const line = drawn.get(sheet);
     const attributes = line && line.className ? { class: line.className } : {};
-    return row(attributes, label("sheet", sheet), copied(line, "svg"), inWords(asked, spans));
+    return row(attributes, label("sheet", sheet), copied(line, "svg"), inWords(asked, spans, later));
   });
   const made = table({ class: "rows", id: "by-sheet" }, ["Sheet", "", "Had it seen it?"], lines);
   made.tHead.rows[0].cells[1].append(...copied(band, "thead svg"));
+  made.tHead.rows[0].cells[1].setAttribute("aria-label", "Ticks");
   return made;
 }
 
@@ -159,10 +177,12 @@ function modelTable(pairs, asked) {
   const lines = known.models.map(model => {
     const turned = { ...asked, model }, { clean, earliest } = found(pairs, turned);
     const link = element("a", { href: addressOf(turned) }, ...label("model", model));
-    return row({}, [link], [clean ? "clean" : "not clean"], clean ? [] : label("tick", earliest));
+    const told = clean ? ["clean"] : [element("span", { class: "notclean" }, "not clean")];
+    const tick = clean ? known.events.model.includes(model) ? [] : [NO_EVENT] : label("tick", earliest);
+    return row(model === asked.model ? { "aria-current": "true" } : {}, [link], told, tick);
   });
   const others = [...Array(LAST_MODEL + 1).keys()].filter(model => !known.models.includes(model));
-  if (others.length) lines.push(row({}, [ranges(others, ", ")], ["clean"], ["no event in the book"]));
+  if (others.length) lines.push(row({}, [ranges(others, ", ")], ["clean"], [NO_EVENT]));
   const caption = element("caption", {}, "Every model, for these sheets and this tick:");
   return table({ class: "short", id: "by-model" }, ["Model", "Verdict", "Earliest tick"], lines, caption);
 }
@@ -172,7 +192,12 @@ function put(kind, asked, told, tables) {
   by("verdict").replaceChildren(...told);
   by("verdict").className = `verdict ${kind}`;
   by("tables").replaceChildren(...tables);
-  by("question").classList.add("asked");
+  by("question").classList.toggle("asked", told.length > 0);
+}
+
+function answerAt(address) {
+  const page = decodeURIComponent(location.pathname.split("/").at(-1));
+  return element("p", { id: "address" }, "The address of this answer, for whoever has this page: ", element("a", { href: address }, page + address));
 }
 
 let turn = 0;
@@ -182,41 +207,48 @@ async function answer(pairs, asked) {
   const mine = ++turn;
   await unpackBand(by(`m${asked.model}`));
   if (mine !== turn) return;
-  const all = found(pairs, asked), address = addressOf(asked);
-  const link = element("p", { id: "address" }, "The address of this answer: ", element("a", { href: address }, address));
+  const all = found(pairs, asked);
+  const bounds = element("p", { class: "note" }, "Other groups, and the same yields under another sheet's number, are not judged here.");
   by("tables").style.setProperty("--at", known.ticks ? Math.max(0, asked.tick - 0.5) / known.ticks : 0);
-  put(all.clean ? "clean" : "unclean", question(asked), verdict(asked, all), [sheetTable(asked, all), modelTable(pairs, asked), link]);
+  put(all.clean ? "clean" : "unclean", question(asked), [...verdict(asked, all), ...doubt(asked, all)],
+    [bounds, sheetTable(asked, all), modelTable(pairs, asked), answerAt(addressOf(asked))]);
 }
 
 /* ---- Form and address ---- */
 
 let told = ""; // the address of the answer that is shown
 
+/* What is shown gives way: to what is wrong with a question, or to nothing. */
+function giveWay(...words) {
+  told = "";
+  turn++;
+  put("wrong", [], words, []);
+}
+
 /* Answers what is asked, or says what is wrong with it. */
 function tell(pairs, values) {
   try {
     const asked = questionIn(values);
     told = addressOf(asked);
-    answer(pairs, asked);
+    return answer(pairs, asked);
   } catch (error) {
-    told = "";
-    turn++;
-    put("wrong", [], [error.message], []);
+    giveWay(error.message);
   }
 }
 
 /* What the address asks is put into the form and answered; an address that asks nothing is left alone. */
-function followAddress(pairs) {
+async function followAddress(pairs) {
   const values = new URLSearchParams(location.hash.slice(1));
   if (location.hash === told || !FIELDS.every(field => values.has(field))) return;
   for (const field of FIELDS) form.elements[field].value = values.get(field);
-  tell(pairs, values);
+  await tell(pairs, values);
 }
 
-/* What the form asks is answered, and the answer gets its address. */
+/* What the form asks is answered, and the address says what is shown. */
 function askForm(pairs) {
-  tell(pairs, new FormData(form));
-  if (told) location.hash = told;
+  if (form.elements.tick.value.trim() && form.elements.sheets.value.trim()) tell(pairs, new FormData(form));
+  else giveWay();
+  location.replace("#" + told.slice(1));
 }
 
 function start(pairs) {
@@ -229,8 +261,13 @@ function start(pairs) {
     event.preventDefault();
     askForm(pairs);
   });
-  form.addEventListener("change", () => form.checkValidity() && askForm(pairs));
-  window.addEventListener("hashchange", () => followAddress(pairs));
+  form.addEventListener("change", () => askForm(pairs));
+  window.addEventListener("hashchange", async () => {
+    // who followed a link is led to the answer
+    if (location.hash === told) return;
+    await followAddress(pairs);
+    if (told) by("verdict").focus();
+  });
   for (const band of document.querySelectorAll("details")) band.addEventListener("toggle", () => unpackBand(band));
   by("question").hidden = false;
   followAddress(pairs);

@@ -82,8 +82,8 @@ class Picture:
 
     def heading(self, model):
         could = len(self.rows[model])
-        told = f"could read {could} of {counted(len(self.sheets), 'sheet')}" if could else "no bar"
-        return f"<h3>Model {self.label('model', model)}</h3> <span>{told}</span>"
+        told = f"could read {could} of {counted(len(self.sheets), 'sheet')}" if could else "could read no sheet at any tick."
+        return f"<h3>Model {self.label('model', model)}</h3> {told}"
 
     def never(self, model):
         never = self.sheets.difference(self.rows[model])
@@ -93,22 +93,22 @@ class Picture:
     def band(self, model):
         """What a model's band shows when it is open."""
         rows = "".join(self.row(model, sheet) for sheet in self.rows[model])
-        head = f"<tr><th scope=col>Sheet<th scope=col>{self.scale}<th scope=col>Could read in ticks"
+        head = f"<tr><th scope=col>Sheets of model {model}<th scope=col aria-label=Ticks>{self.scale}<th scope=col>Could read in ticks"
         return f"<table class=rows>\n<thead>{head}\n<tbody>\n{rows}</table>\n{self.never(model)}"
 
     def bare(self, model):
         """A model without a span is said in words."""
         events = "" if model in self.book.models else " The book has no event of it."
-        return f"<div class=bare>{self.heading(model)} It could read no sheet at any tick.{events}</div>\n"
+        return f"<div class=bare>{self.heading(model)}{events}</div>\n"
 
     def without(self):
-        """What has no row, in words: the sheets that nobody could read, and who isn't in the book."""
+        """What has no row, in words: the sheets that nobody could read, and who has no event."""
         told = ""
         unread = self.sheets.difference(sheet for _, sheet in self.book.spans)
         if unread:
             told += f"<p>No model could read these sheets at any tick: {self.listed('sheet', unread)}.\n"
-        for kind, known in (("model", self.models), ("sheet", self.sheets)):
-            others = set(range(RANGES[kind][1] + 1)) - known
+        for kind, events in (("model", self.book.models), ("sheet", self.book.sheets)):
+            others = set(range(RANGES[kind][1] + 1)) - events
             if others:
                 ending = "they could read no sheet" if kind == "model" else "no model could read them"
                 told += f"<p>The book has no event of the {kind}s {ranges(others)}: {ending}.\n"

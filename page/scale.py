@@ -13,7 +13,7 @@ WIDE = 480
 SIGN = 8  # pixels for a sign; signs of East Asian writing take two
 SPARE = 3  # signs between two numbers, so that the last has room at the edge
 CUT = 20  # signs of a tick's name
-NUMBERS, NAMES = 12, 28  # where the two lines stand
+NUMBERS, NAMES = "1em", "2.3em"  # where the two lines stand
 
 
 def length(text):

@@ -48,6 +48,7 @@ def legend(ticks):
 {sample(*by_join)} begins by join: the model joined liberally while the sheet was in by a liberal add
 {sample(*by_add, end=30)} ended: the model could read the sheet up to that tick
 {sample(*by_add, still_open=True)} open: the model could still read it at tick {ticks}
+<li>A mark alone: a span too short to draw, or several; the words have their ticks
 <li>In words: <i>add 4..56</i>, by add, in ticks 4 to 56; <i>latest: join 12</i>, the latest moment of an open one
 </ul>
 """
@@ -67,7 +68,7 @@ def bands(picture):
             continue
         content = drawn[model]
         if pack:
-            content = f"<script type=text/plain data-packed>{packed(content)}</script>\n"
+            content = f"<script type=text/plain data-packed>{packed(content)}</script>\n<noscript><p>The rows are unpacked by a script.</noscript>\n"
         told += f"<details id=m{model}{unfolded}><summary>{picture.heading(model)}</summary>\n{content}</details>\n"
     return told, pack
 
@@ -76,7 +77,7 @@ def whole_picture(picture):
     if not picture.book.ticks:
         return f"<p>No tick is closed in this book: no model could read any sheet.\n{picture.without()}", False
     drawn, pack = bands(picture)
-    return legend(picture.book.ticks) + drawn + picture.without(), pack
+    return (legend(picture.book.ticks) if picture.book.spans else "") + drawn + picture.without(), pack
 
 
 def name_list(picture):
@@ -98,7 +99,8 @@ def page_of(told, named):
     script = (HERE / "page.js").read_text()
     grid = Scale(told.ticks, {}).grid() if told.ticks else "100%"
     style = filled((HERE / "page.css").read_text(), {"grid": grid})
-    known = {"ticks": told.ticks, "models": sorted(picture.models), "names": named}
+    events = {"model": sorted(told.models), "sheet": sorted(told.sheets)}
+    known = {"group": told.group, "ticks": told.ticks, "models": sorted(picture.models), "events": events, "names": named}
     return filled(
         (HERE / "page.html").read_text(),
         {
@@ -111,6 +113,7 @@ def page_of(told, named):
             "records": told.records,
             "sha256": told.sha256,
             "picture": drawn + name_list(picture),
+            "tick_help": f"Ticks go from 0, before the first, to {told.ticks}." if told.ticks else "No tick is closed: only tick 0 can be asked for.",
             "noscript": ", but for the bands, which lie packed because this book has so many spans; <code>spans</code> prints them" if pack else "",
             "spans": packed(told.spans_text) if pack_spans else told.spans_text,
             "spans_packed": " data-packed" if pack_spans else "",
