@@ -9,6 +9,7 @@ import struct
 import subprocess
 
 MOST_BYTES = 16_404
+PATIENCE = 120  # seconds: the programs take parts of one
 HEADER_BYTES = 20
 ADDS = (4, 5)
 FIRST_SHEET_KIND = 4
@@ -42,7 +43,7 @@ class Unfit(Exception):
 def said(program, content):
     """What a program prints of a book; a refusal is raised."""
     try:
-        ended = subprocess.run([program], input=content, stdout=subprocess.PIPE, check=True)
+        ended = subprocess.run([program], input=content, stdout=subprocess.PIPE, check=True, timeout=PATIENCE)
         text = ended.stdout.decode("ascii")
     except (OSError, subprocess.SubprocessError, UnicodeDecodeError) as error:
         raise Unfit(f"{program} failed: {error}") from None
@@ -74,9 +75,12 @@ class Book:
             raise Unfit("spans takes the book and listing refuses it") from None
         self.sha256 = hashlib.sha256(content).hexdigest()
         self.read_first_line()
-        self.read_spans()
-        self.read_moments()
         self.read_records(content)
+        try:
+            self.read_spans()
+            self.read_moments()
+        except ValueError as error:
+            raise Unfit(f"a line can't be read: {error}") from None
 
     def read_first_line(self):
         first, of_listing = (text.split("\n", 1)[0] for text in (self.spans_text, self.listing_text))
@@ -89,6 +93,8 @@ class Book:
         self.spans = {}
         for line in lines_between(self.spans_text, "spans"):
             model, sheet, first, last = map(int, line.split(" "))
+            if model not in self.models or sheet not in self.sheets:
+                raise Unfit(f"spans tells of model {model} and sheet {sheet}, which have no events")
             self.spans.setdefault((model, sheet), []).append((first, last))
 
     def read_moments(self):
@@ -96,6 +102,8 @@ class Book:
         self.moments = {}
         for line in lines_between(self.listing_text, "granted"):
             model, sheet, kind, tick = line.split(" ")
+            if kind not in ("add", "join"):
+                raise ValueError(f"{kind!r} is no kind of a moment")
             self.moments[int(model), int(sheet)] = kind, int(tick)
         still_open = {pair: spans[-1] for pair, spans in self.spans.items() if spans[-1][1] == self.ticks}
         for pair in still_open.keys() | self.moments.keys():

@@ -11,6 +11,7 @@ RANGES = {"model": (0, 63), "sheet": (0, 255), "tick": (1, 1_000_000)}
 NUMBER = re.compile("[0-9]{1,20}")
 BLANKS = re.compile("[ \t]+")
 MOST_BYTES = 1_048_576
+MOST_SIGNS = 10_000
 QUOTED = 40
 
 
@@ -44,6 +45,8 @@ def named(line):
         raise ValueError(f"{quoted(number)} is no {kind} from {least} to {most}")
     if not name:
         raise ValueError(f"{kind} {int(number)} has no name behind it")
+    if len(name) > MOST_SIGNS:
+        raise ValueError(f"the name has more than {MOST_SIGNS} signs")
     return kind, int(number), name
 
 

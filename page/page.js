@@ -3,16 +3,27 @@
    `spans` printed and decides no grant. Names are put into the page as text, never as markup. */
 const LAST_MODEL = 63, LAST_SHEET = 255;
 const FIELDS = ["model", "tick", "sheets"];
+const QUOTED = 20;
 const NO_EVENT = "no event in the book";
 const CANT_UNPACK = "This browser can't unpack what the page holds; a newer one can.";
 const by = id => document.getElementById(id);
 const known = JSON.parse(by("known").textContent);
 const form = document.forms[0];
 
+/* Neighbouring texts as one: a row can have thousands of spans. */
+function merged(parts) {
+  const fewer = [];
+  for (const part of parts) {
+    if (typeof part === "string" && typeof fewer.at(-1) === "string") fewer[fewer.length - 1] += part;
+    else fewer.push(part);
+  }
+  return fewer;
+}
+
 function element(tag, attributes, ...children) {
   const made = document.createElement(tag);
   for (const [name, value] of Object.entries(attributes)) made.setAttribute(name, value);
-  made.append(...children);
+  made.append(...merged(children));
   return made;
 }
 
@@ -66,8 +77,11 @@ function spansByPair(text) {
 
 /* ---- What is asked ---- */
 
+/* What was typed, in one short piece: a message has no room for somebody else's sentences. */
+const quoted = text => `“${text.length > QUOTED ? text.slice(0, QUOTED) + "…" : text}”`;
+
 function numberIn(text, last, kind) {
-  if (!/^[0-9]{1,20}$/.test(text) || Number(text) > last) throw new Error(`“${text}” is no ${kind} from 0 to ${last}.`);
+  if (!/^[0-9]{1,20}$/.test(text) || Number(text) > last) throw new Error(`${quoted(text)} is no ${kind} from 0 to ${last}.`);
   return Number(text);
 }
 
@@ -75,10 +89,10 @@ function numberIn(text, last, kind) {
 function sheetsIn(text) {
   const sheets = new Set();
   for (const part of text.replace(/\s*(?:[-–—−]|\.\.)\s*/g, "-").split(/[\s,;]+/).filter(Boolean)) {
-    if (!/^[0-9]+(-[0-9]+)?$/.test(part)) throw new Error(`“${part}” is no sheet and no range of sheets. Type them as 7, 9-12.`);
+    if (!/^[0-9]+(-[0-9]+)?$/.test(part)) throw new Error(`${quoted(part)} is no sheet and no range of sheets. Type them as 7, 9-12.`);
     const ends = part.split("-").map(end => numberIn(end, LAST_SHEET, "sheet"));
     const [first, last] = [ends[0], ends.at(-1)];
-    if (last < first) throw new Error(`“${part}” falls. Type the lower sheet first, as 9-12.`);
+    if (last < first) throw new Error(`${quoted(part)} falls. Type the lower sheet first, as 9-12.`);
     for (let sheet = first; sheet <= last; sheet++) sheets.add(sheet);
   }
   if (!sheets.size) throw new Error("Which sheets were held out? Type their numbers, as 7, 9-12.");
@@ -88,12 +102,13 @@ function sheetsIn(text) {
 /* A tick by its number, or by its name where just one tick has it. */
 function tickIn(text) {
   if (/^[0-9]+$/.test(text) && Number(text) > known.ticks)
-    throw new Error(`The book's last closed tick is ${known.ticks}: it tells nothing of tick ${text}.`);
+    throw new Error(`The book's last closed tick is ${known.ticks}: it tells nothing of tick ${quoted(text)}.`);
   const named = Object.keys(known.names.tick).filter(tick => known.names.tick[tick] === text);
   return numberIn(/^[0-9]+$/.test(text) || named.length !== 1 ? text : named[0], known.ticks, "tick");
 }
 
 function questionIn(values) {
+  if (FIELDS.some(field => values.getAll(field).length > 1)) throw new Error("One model, one tick and one list of sheets can be asked for at a time.");
   const [model, tick, sheets] = FIELDS.map(field => values.get(field).trim());
   return { model: numberIn(model, LAST_MODEL, "model"), tick: tickIn(tick), sheets: sheetsIn(sheets) };
 }
@@ -109,7 +124,7 @@ function found(pairs, { model, tick, sheets }) {
     const spans = pairs.get(`${model} ${sheet}`) || [];
     return { sheet, spans: spans.filter(([first]) => first <= tick), later: spans.find(([first]) => first > tick) };
   });
-  const firsts = rows.flatMap(({ spans }) => spans.map(([first]) => first));
+  const firsts = rows.filter(({ spans }) => spans.length).map(({ spans }) => spans[0][0]);
   return { rows, clean: !firsts.length, earliest: Math.min(...firsts) };
 }
 
@@ -192,7 +207,7 @@ function put(kind, asked, told, tables) {
   by("verdict").replaceChildren(...told);
   by("verdict").className = `verdict ${kind}`;
   by("tables").replaceChildren(...tables);
-  by("question").classList.toggle("asked", told.length > 0);
+  by("question").classList.toggle("asked", tables.length > 0);
 }
 
 function answerAt(address) {
@@ -205,10 +220,11 @@ let turn = 0;
 /* An answer that had to wait for its band gives way to one that was asked for after it. */
 async function answer(pairs, asked) {
   const mine = ++turn;
+  put("waiting", question(asked), [], []);
   await unpackBand(by(`m${asked.model}`));
   if (mine !== turn) return;
   const all = found(pairs, asked);
-  const bounds = element("p", { class: "note" }, "Other groups, and the same yields under another sheet's number, are not judged here.");
+  const bounds = element("p", { class: "note" }, "Other groups, and the same yields under another sheet's number, are not judged here. The dotted line is the tick of the scoring.");
   by("tables").style.setProperty("--at", known.ticks ? Math.max(0, asked.tick - 0.5) / known.ticks : 0);
   put(all.clean ? "clean" : "unclean", question(asked), [...verdict(asked, all), ...doubt(asked, all)],
     [bounds, sheetTable(asked, all), modelTable(pairs, asked), answerAt(addressOf(asked))]);
@@ -226,22 +242,23 @@ function giveWay(...words) {
 }
 
 /* Answers what is asked, or says what is wrong with it. */
-function tell(pairs, values) {
+async function tell(pairs, values) {
   try {
     const asked = questionIn(values);
     told = addressOf(asked);
-    return answer(pairs, asked);
+    form.elements.model.value = asked.model;
+    await answer(pairs, asked);
   } catch (error) {
     giveWay(error.message);
   }
 }
 
-/* What the address asks is put into the form and answered; an address that asks nothing is left alone. */
-async function followAddress(pairs) {
+/* What the address asks is put into the form and answered; where it asks nothing, there is no answer. */
+function followAddress(pairs) {
   const values = new URLSearchParams(location.hash.slice(1));
-  if (location.hash === told || !FIELDS.every(field => values.has(field))) return;
+  if (!FIELDS.every(field => values.has(field))) return giveWay();
   for (const field of FIELDS) form.elements[field].value = values.get(field);
-  await tell(pairs, values);
+  return tell(pairs, values);
 }
 
 /* What the form asks is answered, and the address says what is shown. */
@@ -268,12 +285,11 @@ function start(pairs) {
     await followAddress(pairs);
     if (told) by("verdict").focus();
   });
-  for (const band of document.querySelectorAll("details")) band.addEventListener("toggle", () => unpackBand(band));
-  by("question").hidden = false;
+  form.hidden = false;
   followAddress(pairs);
 }
 
-unpacked(by("spans")).then(spansByPair).then(start, () => {
-  by("question").hidden = false;
-  put("wrong", [], [CANT_UNPACK], []);
-});
+for (const band of document.querySelectorAll("details")) band.addEventListener("toggle", () => unpackBand(band));
+by("question").hidden = false;
+
+unpacked(by("spans")).then(spansByPair).then(start, () => giveWay(CANT_UNPACK));

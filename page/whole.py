@@ -58,7 +58,7 @@ def bands(picture):
     """Every model's band, and whether they lie packed. A model without a span has a line."""
     drawn = {model: picture.band(model) for model, rows in picture.rows.items() if rows}
     rows = sum(map(len, picture.rows.values()))
-    pack = sum(map(len, drawn.values())) > OPEN_BYTES
+    pack = sum(len(band.encode()) for band in drawn.values()) > OPEN_BYTES
     unfolded = " open" if rows <= OPEN_ROWS else ""
     said = f"<p class=note>{counted(rows, 'row')} are folded: open a model to see its own. A print has those that are open.\n"
     told = "" if unfolded else said
@@ -68,7 +68,7 @@ def bands(picture):
             continue
         content = drawn[model]
         if pack:
-            content = f"<script type=text/plain data-packed>{packed(content)}</script>\n<noscript><p>The rows are unpacked by a script.</noscript>\n"
+            content = f"<script type=text/plain data-packed>{packed(content)}</script>\n<noscript><p>The rows are unpacked by a script.</p></noscript>\n"
         told += f"<details id=m{model}{unfolded}><summary>{picture.heading(model)}</summary>\n{content}</details>\n"
     return told, pack
 
@@ -96,13 +96,13 @@ def page_of(told, named):
     picture = Picture(told, named)
     drawn, pack = whole_picture(picture)
     pack_spans = len(told.spans_text) > PLAIN_BYTES
-    script = (HERE / "page.js").read_text()
+    script = (HERE / "page.js").read_text(encoding="utf-8")
     grid = Scale(told.ticks, {}).grid() if told.ticks else "100%"
-    style = filled((HERE / "page.css").read_text(), {"grid": grid})
+    style = filled((HERE / "page.css").read_text(encoding="utf-8"), {"grid": grid})
     events = {"model": sorted(told.models), "sheet": sorted(told.sheets)}
     known = {"group": told.group, "ticks": told.ticks, "models": sorted(picture.models), "events": events, "names": named}
     return filled(
-        (HERE / "page.html").read_text(),
+        (HERE / "page.html").read_text(encoding="utf-8"),
         {
             "script": script,
             "script_hash": hash_of(script),
@@ -124,10 +124,10 @@ def page_of(told, named):
 
 def page_of_refused(content, refused):
     """The page of a refused book: that, the number, and what it means."""
-    style = filled((HERE / "page.css").read_text(), {"grid": "100%"})
+    style = filled((HERE / "page.css").read_text(encoding="utf-8"), {"grid": "100%"})
     whole = len(content) <= book.MOST_BYTES
     return filled(
-        (HERE / "refused.html").read_text(),
+        (HERE / "refused.html").read_text(encoding="utf-8"),
         {
             "style": style,
             "style_hash": hash_of(style),

@@ -51,3 +51,10 @@ def fullest_book():
     for model in range(MODELS):
         words += [(2 + place * 17 + model % 13) * 4096 + (1 + place % 2) * 512 + model for place in range(events)]
     return book(0, 2_000, words)
+
+
+def one_model_book(joins):
+    """Every sheet in, and model 0 alone, which joins liberally so many times and leaves strictly in between."""
+    words = [4096 + 5 * 512 + sheet for sheet in range(SHEETS)]
+    words += [(2 + place) * 4096 + (1 + place % 2) * 512 for place in range(2 * joins)]
+    return book(0, 2 * joins + 1, words)
