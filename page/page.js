@@ -77,8 +77,11 @@ function spansByPair(text) {
 
 /* ---- What is asked ---- */
 
-/* What was typed, in one short piece: a message has no room for somebody else's sentences. */
-const quoted = text => `“${text.length > QUOTED ? text.slice(0, QUOTED) + "…" : text}”`;
+/* What was typed, in one short plain piece: a message has no room for somebody else's sentences. */
+function quoted(text) {
+  const plain = text.replace(/[^\x20-\x7e]/g, "?");
+  return `“${plain.length > QUOTED ? plain.slice(0, QUOTED) + "…" : plain}”`;
+}
 
 function numberIn(text, last, kind) {
   if (!/^[0-9]{1,20}$/.test(text) || Number(text) > last) throw new Error(`${quoted(text)} is no ${kind} from 0 to ${last}.`);
