@@ -53,6 +53,15 @@ def fullest_book():
     return book(0, 2_000, words)
 
 
+def removed_book():
+    """Every model in, and the sheets added and removed strictly as often as the records last, over a million ticks."""
+    words = [4096 + 512 + model for model in range(MODELS)]
+    events = (RECORDS - MODELS) // SHEETS
+    for sheet in range(SHEETS):
+        words += [(2 + place * (LAST_TICK // (events + 1)) + sheet * 211) * 4096 + (5 + place % 2) * 512 + sheet for place in range(events)]
+    return book(0, LAST_TICK, words)
+
+
 def one_model_book(joins):
     """Every sheet in, and model 0 alone, which joins liberally so many times and leaves strictly in between."""
     words = [4096 + 5 * 512 + sheet for sheet in range(SHEETS)]
