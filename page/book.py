@@ -1,7 +1,7 @@
 """A book as the proved programs tell it: the spans of its grants, and the moments of those in force.
 
-Nothing here decides a grant. The records are read for one thing that neither program prints: which
-carriers have events, and in which ticks a sheet was added.
+Nothing here decides a grant. The records are read for what neither program prints: which carriers have
+events, and in which ticks a sheet was added.
 """
 import hashlib
 import re

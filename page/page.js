@@ -213,8 +213,9 @@ function put(kind, asked, told, tables) {
   by("question").classList.toggle("asked", tables.length > 0);
 }
 
+/* The page's own name is shown as the address has it: its bytes need not be text. */
 function answerAt(address) {
-  const page = decodeURIComponent(location.pathname.split("/").at(-1));
+  const page = location.pathname.split("/").at(-1);
   return element("p", { id: "address" }, "The address of this answer, for whoever has this page: ", element("a", { href: address }, page + address));
 }
 
