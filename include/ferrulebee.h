@@ -89,8 +89,8 @@ enum {
     FERRULEBEE_BY_ADD = 101,       /* granted since a moment by add; the tick of the latest moment */
     FERRULEBEE_BY_JOIN = 102,      /* granted since a moment by join; the tick of the latest moment */
     FERRULEBEE_NONE = 103,         /* denied: no moment ever */
-    FERRULEBEE_STRICT_LEAVE = 104, /* denied: a strict leave ended the grant */
-    FERRULEBEE_STRICT_REMOVE = 105 /* denied: a strict remove ended the grant */
+    FERRULEBEE_STRICT_LEAVE = 104, /* denied: a strict leave of the model ended the grant; its tick */
+    FERRULEBEE_STRICT_REMOVE = 105 /* denied: a strict remove of the sheet ended the grant; its tick */
 };
 
 /* ---- a group ---- */
@@ -289,8 +289,10 @@ ferrulebee_delivery ferrulebee_deliver(ferrulebee_group group, uint32_t model,
 
 /* Is the model granted the sheet at tick `now`? The two strips are the event words of one model and of
  * one sheet in one group, four bytes a word, little-endian, by rising tick. The answer is
- * code * 2^32 + value: 101 or 102 with the tick; 103, 104 or 105 with 0; a refusal with its place, 0
- * where it has none. Refusals, in this order: 10, 11, 12, 13, 14. Places count words from 0. */
+ * code * 2^32 + value: 101 or 102 with the tick of the latest moment; 103 with 0; 104 or 105 with the
+ * tick of the strict event that ended the grant, which is the earliest after the latest moment; a refusal
+ * with its place, 0 where it has none. Refusals, in this order: 10, 11, 12, 13, 14. Places count words
+ * from 0. */
 uint64_t judge(const uint8_t *model, size_t model_bytes,
                const uint8_t *sheet, size_t sheet_bytes,
                uint32_t now);
