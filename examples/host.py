@@ -1,5 +1,6 @@
 #!/usr/bin/env python3
-"""A prediction host: asks the gate through the shared library, receives a delivery and unpacks it.
+"""A prediction host: asks the gate through the shared library, receives a delivery and unpacks it, and asks
+the judge why a sheet is not in it.
 
     host.py LIBRARY
 
@@ -11,7 +12,14 @@ import struct
 import sys
 
 SJ, LJ, SL, LL, SA, LA, SR, LR = range(8)
-BY_ADD, BY_JOIN = 101, 102
+# The judge's verdicts by their code; a value goes into the braces. Only the first two grant.
+VERDICTS = {
+    101: "granted: the sheet was added while the model was in, tick {}",
+    102: "granted: the model joined liberally a sheet added liberally, tick {}",
+    103: "denied: the model was never granted the sheet",
+    104: "denied: a strict leave of the model ended the grant at tick {}",
+    105: "denied: a strict remove of the sheet ended the grant at tick {}",
+}
 
 
 class Group(ctypes.Structure):
@@ -96,6 +104,18 @@ def receive(gate, group, model, sheets, room):
     return unpack(out.raw[: answer.length])
 
 
+def strip(number, *events):
+    """A carrier's events, each a tick and a kind, as the judge takes them: four bytes a word."""
+    return b"".join(struct.pack("<I", tick * 4096 + kind * 512 + number) for tick, kind in events)
+
+
+def judged(gate, model, sheet, now):
+    """The judge's answer in words."""
+    answer = gate.judge(model, len(model), sheet, len(sheet), now)
+    code, value = answer >> 32, answer & 0xFFFFFFFF
+    return VERDICTS[code].format(value) if code in VERDICTS else f"refused {code} at {value}"
+
+
 def main(arguments):
     if len(arguments) != 1 or arguments[0] == "--help":
         print(__doc__.strip())
@@ -119,10 +139,10 @@ def main(arguments):
     print("into 10 bytes:", receive(gate, group, 9, sheets, 10))
     print("from two sheets:", receive(gate, group, 9, store([b"a", b"b"]), 100))
 
-    model = struct.pack("<I", 1 * 4096 + SJ * 512 + 7)
-    sheet = struct.pack("<I", 2 * 4096 + SA * 512 + 40)
-    verdict = gate.judge(model, len(model), sheet, len(sheet), 2)
-    print("judged", verdict >> 32, "tick", verdict & 0xFFFFFFFF)
+    stayed, left = strip(7, (1, SJ)), strip(7, (1, SJ), (3, SL))
+    print("model 7, sheet 0, tick 2:", judged(gate, stayed, strip(0, (1, SA)), 2))
+    print("model 7, sheet 0, tick 3:", judged(gate, left, strip(0, (1, SA)), 3))
+    print("model 7, sheet 1, tick 3:", judged(gate, left, strip(1, (3, SA)), 3))
     return 0
 
 

@@ -56,10 +56,10 @@ static int say(uint64_t answer)
         printf("denied: the model was never granted the sheet\n");
         return 1;
     case FERRULEBEE_STRICT_LEAVE:
-        printf("denied: the model left strictly\n");
+        printf("denied: a strict leave of the model ended the grant at tick %" PRIu32 "\n", value);
         return 1;
     case FERRULEBEE_STRICT_REMOVE:
-        printf("denied: the sheet was removed strictly\n");
+        printf("denied: a strict remove of the sheet ended the grant at tick %" PRIu32 "\n", value);
         return 1;
     case FERRULEBEE_LATE_NOW:
         printf("refused 10: the tick asked about is above 1,000,000\n");

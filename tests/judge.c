@@ -1,5 +1,6 @@
 /* The judge from C: each refusal at its first and at a later place, each range at its last good
- * and its first bad value, and the histories of RULES.md 14. Expected answers are the rules'. */
+ * and its first bad value, the histories of RULES.md 14, and what ended a grant. Expected answers are
+ * the rules'. */
 #include "strips.h"
 
 #include <inttypes.h>
@@ -50,17 +51,44 @@ static void histories(void)
     texts("LJ1 LL2", "SA2", 2, 103, 0);
     texts("LJ2", "LA1 LR2", 2, 103, 0);
     texts("SJ1 LL3", "SA2 LR4", 5, 101, 2);
-    texts("SJ1 SL3", "SA2 SR3", 3, 104, 0);
+    texts("SJ1 SL3", "SA2 SR3", 3, 104, 3);
     texts("SJ1 LL2 SJ4", "LA3", 4, 103, 0);
     texts("SJ1 SL2 LJ3", "LA1", 3, 102, 3);
     texts("SJ1", "SA2 SR3 LA4", 4, 101, 4);
-    /* a strict remove alone; the earlier of two strict events; a grant after the end of another */
-    texts("SJ1", "SA2 SR3", 3, 105, 0);
-    texts("SJ1 SL4", "SA2 SR3", 5, 105, 0);
-    texts("SJ1 SL3", "SA2 SR4", 5, 104, 0);
-    texts("SJ1 SL3 SJ4", "SA2", 9, 104, 0);
+    /* a grant that outlived a liberal leave; a later moment of it */
     texts("SJ1 LL3 SJ4", "SA2", 4, 101, 2);
     texts("LJ1 LL2 LJ3", "LA1", 3, 102, 3);
+}
+
+/* What ended the grant, and when. */
+static void ended(void)
+{
+    /* a strict remove alone; the earlier of two strict events, of one carrier and of both */
+    texts("SJ1", "SA2 SR3", 3, 105, 3);
+    texts("SJ1", "SA2 SR3", 9, 105, 3);
+    texts("SJ1 SL4", "SA2 SR3", 5, 105, 3);
+    texts("SJ1 SL3", "SA2 SR4", 5, 104, 3);
+    texts("SJ1 SL3 SJ4 SL5", "SA2", 9, 104, 3);
+    texts("SJ1", "SA2 SR3 SA4 SR5", 9, 105, 5);
+    texts("SJ1 LL4", "SA2 SR3 SA5 SR6", 9, 105, 3);
+    /* a strict join after the end starts nothing */
+    texts("SJ1 SL3 SJ4", "SA2", 9, 104, 3);
+    /* both in one tick: the leave, also where the sheet's is the second of its strip */
+    texts("SJ1 SL7", "SA2 LR3 SA4 SR7", 9, 104, 7);
+    /* strict events before the first moment, and those that ended an earlier grant, are not it */
+    texts("SJ1 SL2 SJ3 SL6 SJ7 SL8", "SA4 SR6", 8, 104, 6);
+    texts("SJ1 SL2 SJ3", "SA4 SR6", 8, 105, 6);
+    texts("SJ1 SL3 LJ4 SL9", "LA2", 9, 104, 9);
+    texts("SJ1", "LA1 SR2 LA3 SR5", 5, 105, 5);
+    /* the later of two moments counts: the strict event between them is before it */
+    texts("LJ1 SL2 LJ3", "LA1 SR4", 4, 105, 4);
+    /* a strict event of one carrier ends what outlived the other's liberal one */
+    texts("SJ1 LL3", "SA2 SR5", 9, 105, 5);
+    texts("SJ1 SL5", "SA2 LR3", 9, 104, 5);
+    /* in the tick after the moment, and in the last tick */
+    texts("SJ1 SL2", "SA1", 2, 104, 2);
+    texts("SJ1 SL1000000", "SA1", LAST, 104, LAST);
+    texts("SJ1", "SA999999 SR1000000", LAST, 105, LAST);
 }
 
 static void bad_places(void)
@@ -92,6 +120,9 @@ static void limits(void)
     long_strip(&m, FERRULEBEE_EVENTS, FERRULEBEE_SJ, FERRULEBEE_LL, 1);
     long_strip(&s, FERRULEBEE_EVENTS, FERRULEBEE_LA, FERRULEBEE_LR, 1);
     expect("4,096 words each", &m, &s, LAST, 101, FERRULEBEE_EVENTS - 1);
+    m.words[FERRULEBEE_EVENTS - 1] = FERRULEBEE_WORD(LAST, FERRULEBEE_SL, 0);
+    expect("4,096 words each, the last a strict leave", &m, &s, LAST, 104, LAST);
+    long_strip(&m, FERRULEBEE_EVENTS, FERRULEBEE_SJ, FERRULEBEE_LL, 1);
     expect_short("a model's strip that is not whole words", &m, 1, &s, 0, LAST, 11, 0);
     expect_short("neither strip whole words", &m, 1, &s, 2, LAST, 11, 0);
     expect_short("and now too late", &m, 1, &s, 2, LAST + 1, 10, 0);
@@ -110,6 +141,7 @@ static void limits(void)
 int main(void)
 {
     histories();
+    ended();
     bad_places();
     limits();
     printf("judge from C: %u checks, %u faults\n", checks, faults);

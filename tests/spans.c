@@ -1,6 +1,7 @@
 /* The spans from C: the histories of RULES.md 14.1 and the edges of RULES.md 7 with their spans by hand,
  * each into lists of every length from none to longer than needed; each refusal of the judge's in its
- * order; and that a tick lies in a span exactly when the judge grants there, over every short history. */
+ * order; and over every short history that a tick lies in a span exactly when the judge grants there, and
+ * that what the judge says of a tick is what the spans up to it say. */
 #include "strips.h"
 
 #include <inttypes.h>
@@ -200,8 +201,8 @@ static void coded_strip(strip *s, uint32_t code, uint32_t enters)
         }
 }
 
-/* Does the judge grant at the tick, by the events up to it? */
-static int granted(const strip *m, const strip *s, uint32_t tick)
+/* The judge's answer at the tick, by the events up to it. */
+static uint64_t answer(const strip *m, const strip *s, uint32_t tick)
 {
     uint8_t bytes[2][4 * TICKS];
     size_t lengths[2] = {0, 0};
@@ -210,11 +211,42 @@ static int granted(const strip *m, const strip *s, uint32_t tick)
         for (size_t i = 0; i < strips[side]->count && strips[side]->words[i] / FERRULEBEE_WORD(1, 0, 0) <= tick; i++)
             for (int b = 0; b < 4; b++)
                 bytes[side][lengths[side]++] = (uint8_t)(strips[side]->words[i] >> (8 * b));
-    uint32_t code = FERRULEBEE_CODE(judge(bytes[0], lengths[0], bytes[1], lengths[1], tick));
-    return code == FERRULEBEE_BY_ADD || code == FERRULEBEE_BY_JOIN;
+    return judge(bytes[0], lengths[0], bytes[1], lengths[1], tick);
 }
 
-/* Every well-formed history of one model and one sheet in so many ticks: the spans are the judge's. */
+/* Has the carrier an event of this kind in the tick? */
+static int has(const strip *s, uint32_t kind, uint32_t tick)
+{
+    for (size_t i = 0; i < s->count; i++)
+        if (s->words[i] == FERRULEBEE_WORD(tick, kind, 0))
+            return 1;
+    return 0;
+}
+
+/* Is the judge's answer what the spans up to the tick say? Granted in the last of them, which the moment lies
+ * in; none where there is none; else the strict event of the tick right after the last, the model's first. */
+static int tied(uint64_t said, const strip *m, const strip *s, uint32_t tick, const uint32_t *pairs, uint32_t count)
+{
+    uint32_t code = FERRULEBEE_CODE(said), value = FERRULEBEE_VALUE(said);
+    if (count == 0)
+        return code == FERRULEBEE_NONE && value == 0;
+    uint32_t first = pairs[2 * count - 2], last = pairs[2 * count - 1];
+    if (last == tick)
+        return (code == FERRULEBEE_BY_ADD || code == FERRULEBEE_BY_JOIN) && first <= value && value <= tick;
+    if (has(m, FERRULEBEE_SL, last + 1))
+        return code == FERRULEBEE_STRICT_LEAVE && value == last + 1;
+    return code == FERRULEBEE_STRICT_REMOVE && value == last + 1 && has(s, FERRULEBEE_SR, last + 1);
+}
+
+static void untied(const char *what, uint32_t tick, uint64_t said)
+{
+    faults++;
+    printf("%s, at tick %" PRIu32 ": the judge says %" PRIu32 " %" PRIu32 ", the spans something else\n", what, tick,
+           FERRULEBEE_CODE(said), FERRULEBEE_VALUE(said));
+}
+
+/* Every well-formed history of one model and one sheet in so many ticks: the spans are the judge's, and the
+ * judge's causes are the spans'. */
 static void judged(void)
 {
     static strip m, s;
@@ -224,18 +256,22 @@ static void judged(void)
     for (uint32_t code = 0; code < codes * codes; code++) {
         coded_strip(&m, code / codes, FERRULEBEE_SJ);
         coded_strip(&s, code % codes, FERRULEBEE_SA);
+        char what[40];
+        snprintf(what, sizeof what, "short history %" PRIu32, code);
         uint32_t pairs[2 * TICKS], count = 0;
         int before = 0;
         for (uint32_t tick = 1; tick <= TICKS; tick++) {
-            int now = granted(&m, &s, tick);
+            uint64_t said = answer(&m, &s, tick);
+            int now = FERRULEBEE_CODE(said) == FERRULEBEE_BY_ADD || FERRULEBEE_CODE(said) == FERRULEBEE_BY_JOIN;
             if (now && !before)
                 pairs[2 * count++] = tick;
             if (now)
                 pairs[2 * count - 1] = tick;
             before = now;
+            checks++;
+            if (!tied(said, &m, &s, tick, pairs, count))
+                untied(what, tick, said);
         }
-        char what[40];
-        snprintf(what, sizeof what, "short history %" PRIu32, code);
         ferrulebee_spans_answer expected = {0, 0, count};
         expect_in(2 * count, what, &m, &s, TICKS, expected, pairs);
     }

@@ -38,15 +38,15 @@ answered : (model sheet : History) (now : ℕ) → refusedVerdict (verdict model
 unfolding verdict grantedAt denied
 answered model sheet now =
     go (grant model sheet now) (byAdd model sheet (latest model sheet now)) (eqb (latest model sheet now) 0)
-    (eqb (model (earliest model sheet (latest model sheet now) now)) SL) (latest model sheet now)
+    (eqb (model (earliest model sheet (latest model sheet now) now)) SL) (latest model sheet now) (earliest model sheet (latest model sheet now) now)
   where
-    go : (g b n l : Bool) (t : ℕ)
-        → refusedVerdict (cond g (cond b (Granted (Add t)) (Granted (Join t))) (cond n (Denied None) (cond l (Denied StrictLeave) (Denied StrictRemove)))) ≡ none
-    go true true n l t = refl
-    go true false n l t = refl
-    go false b true l t = refl
-    go false b false true t = refl
-    go false b false false t = refl
+    go : (g b n l : Bool) (t e : ℕ)
+        → refusedVerdict (cond g (cond b (Granted (Add t)) (Granted (Join t))) (cond n (Denied None) (cond l (Denied (StrictLeave e)) (Denied (StrictRemove e))))) ≡ none
+    go true true n l t e = refl
+    go true false n l t e = refl
+    go false b true l t e = refl
+    go false b false true t e = refl
+    go false b false false t e = refl
 
 -- ---- the strips
 

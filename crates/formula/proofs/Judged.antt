@@ -138,7 +138,7 @@ module _ (model sheet : History) where
   unfolding grantedAt
   named t b e = rw e
 
-  caused : (e : ℕ) (b : Bool) → eqb (model e) kinds.SL ≡ b → denied model sheet e ≡ cond b (Denied StrictLeave) (Denied StrictRemove)
+  caused : (e : ℕ) (b : Bool) → eqb (model e) kinds.SL ≡ b → denied model sheet e ≡ cond b (Denied (StrictLeave e)) (Denied (StrictRemove e))
   unfolding denied
   caused e b q = rw q
 
@@ -166,8 +166,8 @@ module _ (model sheet : History) where
       (λ r.
       let e = earliest model sheet t now in
       ⊎-elim
-      (λ a. (Denied StrictLeave, strict-leave t e g l r (eqb-true _ _ a)))
-      (λ b. (Denied StrictRemove, strict-remove t e g l r (eqb-false _ _ b)))
+      (λ a. (Denied (StrictLeave e), strict-leave t e g l r (eqb-true _ _ a)))
+      (λ b. (Denied (StrictRemove e), strict-remove t e g l r (eqb-false _ _ b)))
       (either (eqb (model e) kinds.SL)))
       (earliest-or now t (earliest model sheet t now) refl))
       (either (grant model sheet now))

@@ -24,9 +24,9 @@ pub data Judged (model sheet : History) (now : ℕ) : Verdict → Type 0 where
   -- granted: the formula holds, and the latest moment is given, by add where it is by add
   by-add : (t : ℕ) → Grant model sheet now → Latest model sheet now t → ByAdd model sheet t → Judged model sheet now (Granted (Add t))
   by-join : (t : ℕ) → Grant model sheet now → Latest model sheet now t → ¬ ByAdd model sheet t → Judged model sheet now (Granted (Join t))
-  -- denied: no moment ever, or the earliest strict event after the latest moment, SL looked at first
+  -- denied: no moment ever, or the earliest strict event after the latest moment with its tick, SL looked at first
   none : ((t : ℕ) → 1 ≤ t → t ≤ now → ¬ Moment model sheet t) → Judged model sheet now (Denied None)
   strict-leave : (t e : ℕ) → ¬ Grant model sheet now → Latest model sheet now t → Earliest model sheet t now e → SL model sheet e
-      → Judged model sheet now (Denied StrictLeave)
+      → Judged model sheet now (Denied (StrictLeave e))
   strict-remove : (t e : ℕ) → ¬ Grant model sheet now → Latest model sheet now t → Earliest model sheet t now e → ¬ SL model sheet e
-      → Judged model sheet now (Denied StrictRemove)
+      → Judged model sheet now (Denied (StrictRemove e))

@@ -25,11 +25,11 @@ module _ (model sheet : History) where
   unfoldable pub grantedAt : ℕ → Verdict
   grantedAt t = cond (byAdd model sheet t) (Granted (Add t)) (Granted (Join t))
 
-  -- "The cause is the earliest SL or SR after the latest moment; both in that tick: strict leave."
+  -- "both in that tick: strict leave. Both strict causes carry the tick of the event that ended the grant"
   unfoldable pub denied : ℕ → Verdict
-  denied t = cond (eqb (model t) SL) (Denied StrictLeave) (Denied StrictRemove)
+  denied e = cond (eqb (model e) SL) (Denied (StrictLeave e)) (Denied (StrictRemove e))
 
-  -- "The latest moment is given. Denied has a cause: none (no moment ever), strict leave, or strict remove."
+  -- "The latest moment is given. Denied has a cause: none (no moment ever), strict leave, or strict remove. The cause is the earliest SL or SR after the latest moment"
   unfoldable pub verdict : ℕ → Verdict
   verdict now =
       cond (grant model sheet now) (grantedAt (latest now))

@@ -8,11 +8,11 @@ pub enum Moment {
     Join(u32),
 }
 
-// Why a grant is not there.
+// Why a grant is not there: no moment ever, or the strict event that ended it, with its tick.
 pub enum Cause {
     None,
-    StrictLeave,
-    StrictRemove,
+    StrictLeave(u32),
+    StrictRemove(u32),
 }
 
 pub enum Verdict {
@@ -32,8 +32,8 @@ pub fn number(v: Verdict) -> u32
         },
         Verdict::Denied(cause) => match cause {
             Cause::None => 103,
-            Cause::StrictLeave => 104,
-            Cause::StrictRemove => 105,
+            Cause::StrictLeave(_) => 104,
+            Cause::StrictRemove(_) => 105,
         },
         Verdict::Refused(refusal, _) => refusal,
     }
@@ -47,7 +47,11 @@ pub fn value(v: Verdict) -> u32
             Moment::Add(tick) => tick,
             Moment::Join(tick) => tick,
         },
-        Verdict::Denied(_) => 0,
+        Verdict::Denied(cause) => match cause {
+            Cause::None => 0,
+            Cause::StrictLeave(tick) => tick,
+            Cause::StrictRemove(tick) => tick,
+        },
         Verdict::Refused(_, place) => place,
     }
 }

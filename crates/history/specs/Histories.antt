@@ -55,7 +55,7 @@ histories =
     ∷ row (LJ 1 ∷ LL 2 ∷ []) (SA 2 ∷ []) 2 (Denied None)
     ∷ row (LJ 2 ∷ []) (LA 1 ∷ LR 2 ∷ []) 2 (Denied None)
     ∷ row (SJ 1 ∷ LL 3 ∷ []) (SA 2 ∷ LR 4 ∷ []) 5 (Granted (Add 2))
-    ∷ row (SJ 1 ∷ SL 3 ∷ []) (SA 2 ∷ SR 3 ∷ []) 3 (Denied StrictLeave)
+    ∷ row (SJ 1 ∷ SL 3 ∷ []) (SA 2 ∷ SR 3 ∷ []) 3 (Denied (StrictLeave 3))
     ∷ row (SJ 1 ∷ LL 2 ∷ SJ 4 ∷ []) (LA 3 ∷ []) 4 (Denied None)
     ∷ row (SJ 1 ∷ SL 2 ∷ LJ 3 ∷ []) (LA 1 ∷ []) 3 (Granted (Join 3))
     ∷ row (SJ 1 ∷ []) (SA 2 ∷ SR 3 ∷ LA 4 ∷ []) 4 (Granted (Add 4))

@@ -48,8 +48,8 @@ abbrev pub toldBy : Standing → Verdict
 toldBy Never = Denied None
 toldBy (ByAdd t) = Granted (Add t)
 toldBy (ByJoin t) = Granted (Join t)
-toldBy (Left t) = Denied StrictLeave
-toldBy (Removed t) = Denied StrictRemove
+toldBy (Left t) = Denied (StrictLeave t)
+toldBy (Removed t) = Denied (StrictRemove t)
 
 -- the grant holds
 abbrev pub holding : Standing → Bool

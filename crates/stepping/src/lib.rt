@@ -118,7 +118,7 @@ pub fn told(standing: Standing) -> Verdict
         Standing::Never => Verdict::Denied(Cause::None),
         Standing::ByAdd(tick) => Verdict::Granted(Moment::Add(tick)),
         Standing::ByJoin(tick) => Verdict::Granted(Moment::Join(tick)),
-        Standing::Left(_) => Verdict::Denied(Cause::StrictLeave),
-        Standing::Removed(_) => Verdict::Denied(Cause::StrictRemove),
+        Standing::Left(tick) => Verdict::Denied(Cause::StrictLeave(tick)),
+        Standing::Removed(tick) => Verdict::Denied(Cause::StrictRemove(tick)),
     }
 }

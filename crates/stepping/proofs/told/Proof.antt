@@ -11,11 +11,11 @@ enum-known-standing c = search needs
 enum-known-standing-2 : tie.Need-enum-known-standing-2
 enum-known-standing-2 c = search needs
 
-enum-told-2 : tie.Need-enum-told-2
-enum-told-2 c = search needs
+enum-known-standing-3 : tie.Need-enum-known-standing-3
+enum-known-standing-3 c = search needs
 
-enum-told-3 : tie.Need-enum-told-3
-enum-told-3 c = search needs
+enum-known-standing-4 : tie.Need-enum-known-standing-4
+enum-known-standing-4 c = search needs
 
 returns : tie.Need-returns
 returns c = rw (c .enum-told .given .1)
@@ -27,10 +27,10 @@ returns-3 : tie.Need-returns-3
 returns-3 c = rw (c .before .standing2 .given .1)
 
 returns-4 : tie.Need-returns-4
-returns-4 c = rw (c .enum-told2 .given .1)
+returns-4 c = rw (c .before .standing3 .given .1)
 
 returns-5 : tie.Need-returns-5
-returns-5 c = rw (c .enum-told3 .given .1)
+returns-5 c = rw (c .before .standing4 .given .1)
 
 pub told-spec : {M : Type 1} → statement M
 told-spec =
@@ -39,8 +39,8 @@ told-spec =
     enum-told
     enum-known-standing
     enum-known-standing-2
-    enum-told-2
-    enum-told-3
+    enum-known-standing-3
+    enum-known-standing-4
     returns
     returns-2
     returns-3
