@@ -20,6 +20,7 @@ use Rattle.formula.specs.Ticks.{byAdd, moment, strict, grant}
 use Rattle.formula.specs.Verdict.{latest, earliest, grantedAt, denied, verdict}
 use Rattle.formula.specs.Judged.{Latest, Earliest, Judged, by-add, by-join, none, strict-leave, strict-remove}
 use Rattle.formula.proofs.Says.{Says, says-eq, says-not}
+use Rattle.formula.proofs.Held.{grant-moment, kept}
 use Rattle.formula.proofs.Meaning.{means-add, means-moment, means-strict, means-grant}
 
 -- a statement that fails has a false test
@@ -79,17 +80,6 @@ module _ (model sheet : History) where
       (latest-or n))
       (either (moment model sheet (suc n)))
 
-  -- a grant has a moment
-  grant-moment : (now : ℕ) → Grant model sheet now → Nowhere now → ⊥
-  grant-moment now g h = ⊎-elim (λ s. h (s .0) (s .1) (s .2) (inl (s .3))) (λ s. h (s .0) (s .1) (s .2) (inr (s .3))) g
-
-  -- no strict event after a moment: the grant holds
-  kept : (now t : ℕ) → Latest model sheet now t → ((k : ℕ) → t < k → k ≤ now → ¬ Strict model sheet k) → Grant model sheet now
-  kept now t l h = ⊎-elim
-      (λ a. inl (t, l .from, l .upto, a, λ k x y. (λ z. h k x y (inl z), λ z. h k x y (inr z))))
-      (λ j. inr (t, l .from, l .upto, j, λ k x y. (λ z. h k x y (inl z), λ z. h k x y (inr z))))
-      (l .there)
-
   module _ (now t : ℕ) where
     abbrev after : ℕ → Bool
     after k = ltb t k && strict model sheet k
@@ -145,7 +135,7 @@ module _ (model sheet : History) where
   pub judged-is : (now : ℕ) {v : Verdict} → Judged model sheet now v → v ≡ verdict model sheet now
   judged-is now (by-add t g l a) = sym (is-granted now t g (latest-is now t l) ∙ named t true (means-add model sheet t .1 a))
   judged-is now (by-join t g l a) = sym (is-granted now t g (latest-is now t l) ∙ named t false (unsaid (means-add model sheet t) a))
-  judged-is now (none h) = sym (is-none now (λ g. grant-moment now g h) (latest-none now h))
+  judged-is now (none h) = sym (is-none now (λ g. grant-moment model sheet now g h) (latest-none now h))
   judged-is now (strict-leave t e g l r a) =
       sym (is-denied now t e g (l .from) (latest-is now t l) (earliest-is now t e r) ∙ caused e true (eq-eqb _ _ a))
   judged-is now (strict-remove t e g l r a) =
@@ -162,7 +152,7 @@ module _ (model sheet : History) where
       (λ z.
       let g = says-not (means-grant model sheet now) z in
       ⊎-elim
-      (λ free. absurd (g (kept now t l free)))
+      (λ free. absurd (g (kept model sheet t now (l .from) (l .upto) (l .there) free)))
       (λ r.
       let e = earliest model sheet t now in
       ⊎-elim
@@ -177,3 +167,7 @@ module _ (model sheet : History) where
 
   pub judged : (now : ℕ) → Judged model sheet now (verdict model sheet now)
   judged now = let a = any now in rw (← judged-is now (a .1)) (a .1)
+
+  -- it holds of one verdict only
+  pub judged-once : (now : ℕ) {v w : Verdict} → Judged model sheet now v → Judged model sheet now w → v ≡ w
+  judged-once now x y = judged-is now x ∙ sym (judged-is now y)

@@ -1,4 +1,5 @@
--- The laws of the formula: what each test means, and how it moves from one tick to the next.
+-- The laws of the formula: what each test means, how it moves from one tick to the next, and how long a grant holds.
+pub mod Held
 pub mod Judged
 pub mod Meaning
 pub mod Move

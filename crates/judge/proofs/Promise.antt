@@ -20,6 +20,7 @@ use Rattle.formula.specs.declared.Verdict.{Verdict}
 use Rattle.formula.specs.declared.Verdict.the-variants.{Granted, Refused}
 use Rattle.formula.specs.declared.Moment.{Moment}
 use Rattle.formula.specs.declared.Moment.the-variants.{Add, Join}
+use Rattle.formula.proofs.Held.{grant-moment}
 use Rattle.formula.proofs.Judged.{judged}
 use Rattle.strip.specs.declared.Side.the-variants.{Model, Sheet}
 use Rattle.strip.specs.History.{historyOf}
@@ -44,7 +45,7 @@ module _ (m s : List ℕ) (now : ℕ) (a : StripsAccepted m s now) where
   only v (by-join t g l b) = (λ x. g, λ x. (Join t, refl))
   only v (none h) = (
     λ x. absurd (true≢false (cc (x .1))),
-    λ g. absurd (⊎-elim (λ i. h (i .0) (i .1) (i .2) (inl (i .3))) (λ i. h (i .0) (i .1) (i .2) (inr (i .3))) g),
+    λ g. absurd (grant-moment (historyOf m) (historyOf s) now g h),
   )
   only v (strict-leave t e g l r b) = (λ x. absurd (true≢false (cc (x .1))), λ y. absurd (g y))
   only v (strict-remove t e g l r b) = (λ x. absurd (true≢false (cc (x .1))), λ y. absurd (g y))

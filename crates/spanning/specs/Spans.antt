@@ -3,7 +3,11 @@ use mathlib.Core.Path.{_≡_}
 use mathlib.Core.List.{List, [], _∷_}
 use mathlib.Core.Logic.{_⊎_, _↔_}
 use Prim.Native.Nat.{ℕ, suc, _≤_, _<_}
+use Rattle.formula.specs.Answer.{verdictValue}
 use Rattle.formula.specs.Formula.{History, Grant}
+use Rattle.formula.specs.declared.Cause.the-variants.{None, StrictLeave, StrictRemove}
+use Rattle.formula.specs.declared.Verdict.{Verdict}
+use Rattle.formula.specs.declared.Verdict.the-variants.{Granted, Denied, Refused}
 
 -- "pairs (first tick, last tick)"
 pub record Span : Type 0 where
@@ -38,3 +42,17 @@ pub record OpenSince (l : List Span) (now t : ℕ) : Type 0 where
   pub ends : span .last ≡ now
   pub begins : span .first ≤ t
   pub before : t ≤ now
+
+-- the last span is over: tick e is the one right after it
+pub record OverAt (l : List Span) (e : ℕ) : Type 0 where
+  pub span : Span
+  pub last : LastIs l span
+  pub ends : suc (span .last) ≡ e
+
+-- what the judge's verdict at now says of the spans; "the cause's tick is the tick right after the last span's last tick"
+abbrev pub VerdictSays : List Span → ℕ → Verdict → Type 0
+VerdictSays l now (Granted moment) = OpenSince l now (verdictValue (Granted moment))
+VerdictSays l now (Denied None) = l ≡ []
+VerdictSays l now (Denied (StrictLeave e)) = OverAt l e
+VerdictSays l now (Denied (StrictRemove e)) = OverAt l e
+VerdictSays l now (Refused number place) = ⊥
