@@ -12,6 +12,14 @@ use Rattle.standing.specs.declared.Standing.{Standing}
 use Rattle.standing.specs.declared.Standing.the-variants.{Never, ByAdd, ByJoin, Left, Removed}
 use Rattle.standing.specs.declared.Seen.{Seen}
 
+-- what the standing tells
+abbrev pub toldBy : Standing → Verdict
+toldBy Never = Denied None
+toldBy (ByAdd t) = Granted (Add t)
+toldBy (ByJoin t) = Granted (Join t)
+toldBy (Left t) = Denied (StrictLeave t)
+toldBy (Removed t) = Denied (StrictRemove t)
+
 -- a strict event ends a grant and nothing else
 abbrev pub endedBy : Standing → Standing → Standing
 endedBy Never end = Never
@@ -42,14 +50,6 @@ stepOf seen t model sheet =
 unfoldable pub scanTo : History → History → ℕ → Seen
 scanTo model sheet zero = start
 scanTo model sheet (suc t) = stepOf (scanTo model sheet t) (suc t) (model (suc t)) (sheet (suc t))
-
--- what the standing tells
-abbrev pub toldBy : Standing → Verdict
-toldBy Never = Denied None
-toldBy (ByAdd t) = Granted (Add t)
-toldBy (ByJoin t) = Granted (Join t)
-toldBy (Left t) = Denied (StrictLeave t)
-toldBy (Removed t) = Denied (StrictRemove t)
 
 -- the grant holds
 abbrev pub holding : Standing → Bool

@@ -49,7 +49,8 @@ use Rattle.demands.specs.Ours.{ours}
 use Rattle.demands.specs.Refusals.{refusedDelivery}
 use Rattle.demands.proofs.One.{demand-one}
 use Rattle.demands.proofs.Two.{demand-two}
-use Rattle.wrong.specs.Gates.{taken, unsaid, padded, hidden, refusesAll, deniesAll, idle, counting, frozen, late, nameless, leak, unsaying, telling, overhanging, storing, undelivering, inventing, padding}
+use Rattle.wrong.specs.Gates.{taken, unsaid, padded, hidden, refusesAll, deniesAll, undated, momentDated, heldDated, earlyDated, lateDated, misnaming, idle, counting, frozen, late, nameless, leak, unsaying, telling, overhanging, storing, undelivering, inventing, padding}
+use Rattle.wrong.proofs.Causes.{undates, dates-by-moment, dates-by-hold, dates-early, dates-late, misnames}
 use Rattle.wrong.proofs.Story.{Turn, ask, tick, begins, tellAll, allFit, callsOf, tests, well-formed, does-grant, grants-not}
 use Rattle.wrong.proofs.In.{same-reach, in-after}
 use Rattle.wrong.proofs.Fresh.{nobody, store, fresh-delivers, fresh-buffer}
@@ -337,6 +338,12 @@ pub record ShutOut : Type 0 where
   -- demand 2
   pub refuses-all : DemandTwo refusesAll → ⊥
   pub denies-all : DemandTwo deniesAll → ⊥
+  pub undates : DemandTwo undated → ⊥
+  pub dates-by-moment : DemandTwo momentDated → ⊥
+  pub dates-by-hold : DemandTwo heldDated → ⊥
+  pub dates-early : DemandTwo earlyDated → ⊥
+  pub dates-late : DemandTwo lateDated → ⊥
+  pub misnames : DemandTwo misnaming → ⊥
   pub does-nothing : DemandTwo idle → ⊥
   pub only-counts : DemandTwo counting → ⊥
   pub freezes : DemandTwo frozen → ⊥
@@ -361,6 +368,12 @@ pub wrong-gates-shut-out : ShutOut
 wrong-gates-shut-out = record {
   refuses-all = refuses-all;
   denies-all = denies-all;
+  undates = undates;
+  dates-by-moment = dates-by-moment;
+  dates-by-hold = dates-by-hold;
+  dates-early = dates-early;
+  dates-late = dates-late;
+  misnames = misnames;
   does-nothing = does-nothing;
   only-counts = only-counts;
   freezes = freezes;

@@ -1,16 +1,22 @@
 -- Wrong gates. Each is ours but for what its comment says.
 use mathlib.Core.Bool.{cond, _&&_}
 use mathlib.Core.List.{List, [], _∷_, _++_}
-use Prim.Native.Nat.{ℕ, _+_, _-_, _^_}
+use Prim.Native.Nat.{ℕ, zero, suc, _+_, _-_, _^_}
 use lib.Dec.{eqb, leb}
 use lib.ListN.{length, take, drop}
+use Rattle.rules.specs.Kinds.{SR}
 use Rattle.rules.specs.Ranges.{sheets}
 use Rattle.rules.specs.Refusals.{badKind, badNumber, noTickLeft, badList, badGroup, lateNow, badLength, badHeader, badStore}
 use Rattle.wire.specs.Word.{le32, bytes32}
 use Rattle.replay.specs.Replay.{counted}
-use Rattle.formula.specs.declared.Cause.the-variants.{None}
+use Rattle.formula.specs.Answer.{verdictValue}
+use Rattle.formula.specs.Formula.{History}
+use Rattle.formula.specs.Ticks.{strict}
+use Rattle.formula.specs.Verdict.{latest, earliest}
+use Rattle.formula.specs.declared.Cause.the-variants.{None, StrictLeave, StrictRemove}
 use Rattle.formula.specs.declared.Verdict.{Verdict}
 use Rattle.formula.specs.declared.Verdict.the-variants as verdict
+use Rattle.strip.specs.History.{historyOf}
 use Rattle.group.specs.Fresh.{freshAnswer, freshGroup}
 use Rattle.group.specs.Marks.{modelIn, sheetIn}
 use Rattle.group.specs.Request.{markedGroup}
@@ -80,10 +86,6 @@ refusesAll = record {
   bookLeft = λ T number ws buffer. buffer;
 }
 
--- a judge that always denies
-abbrev pub deniesAll : Gate Group
-deniesAll = replacing (ours .fresh) (ours .request) (ours .close) (ours .read) (ours .mask) (ours .deliver) (ours .delivered) (λ m s now. verdict.Denied None)
-
 -- a close that does nothing
 abbrev pub idle : Gate Group
 idle = replacing (ours .fresh) (ours .request) taken (ours .read) (ours .mask) (ours .deliver) (ours .delivered) (ours .judge)
@@ -130,6 +132,58 @@ late = record {
 -- every fresh group is group 0
 abbrev pub nameless : Gate Group
 nameless = replacing (λ number. ours .fresh 0) (ours .request) (ours .close) (ours .read) (ours .mask) (ours .deliver) (ours .delivered) (ours .judge)
+
+-- ---- the judge
+
+abbrev pub judging : (List ℕ → List ℕ → ℕ → Verdict) → Gate Group
+judging = replacing (ours .fresh) (ours .request) (ours .close) (ours .read) (ours .mask) (ours .deliver) (ours .delivered)
+
+-- always denies
+abbrev pub deniesAll : Gate Group
+deniesAll = judging (λ m s now. verdict.Denied None)
+
+-- a strict cause told with another tick
+abbrev pub at : ℕ → Verdict → Verdict
+at t (verdict.Granted moment) = verdict.Granted moment
+at t (verdict.Denied None) = verdict.Denied None
+at t (verdict.Denied (StrictLeave e)) = verdict.Denied (StrictLeave t)
+at t (verdict.Denied (StrictRemove e)) = verdict.Denied (StrictRemove t)
+at t (verdict.Refused number place) = verdict.Refused number place
+
+-- with tick 0
+abbrev pub undated : Gate Group
+undated = judging (λ m s now. at 0 (ours .judge m s now))
+
+-- with the latest moment's tick
+abbrev pub momentDated : Gate Group
+momentDated = judging (λ m s now. at (latest (historyOf m) (historyOf s) now) (ours .judge m s now))
+
+-- with the last tick in which the grant held
+abbrev pub heldDated : Gate Group
+heldDated = judging (λ m s now. at (verdictValue (ours .judge m s now) - 1) (ours .judge m s now))
+
+-- with the tick of the earliest strict event of the whole history
+abbrev pub earlyDated : Gate Group
+earlyDated = judging (λ m s now. at (earliest (historyOf m) (historyOf s) 0 now) (ours .judge m s now))
+
+-- with the tick of the latest strict event
+unfoldable pub latestStrict : History → History → ℕ → ℕ
+latestStrict model sheet zero = 0
+latestStrict model sheet (suc t) = cond (strict model sheet (suc t)) (suc t) (latestStrict model sheet t)
+
+abbrev pub lateDated : Gate Group
+lateDated = judging (λ m s now. at (latestStrict (historyOf m) (historyOf s) now) (ours .judge m s now))
+
+-- names the remove where a strict leave and a strict remove fall in one tick
+abbrev pub renamed : History → Verdict → Verdict
+renamed sheet (verdict.Granted moment) = verdict.Granted moment
+renamed sheet (verdict.Denied None) = verdict.Denied None
+renamed sheet (verdict.Denied (StrictLeave e)) = cond (eqb (sheet e) SR) (verdict.Denied (StrictRemove e)) (verdict.Denied (StrictLeave e))
+renamed sheet (verdict.Denied (StrictRemove e)) = verdict.Denied (StrictRemove e)
+renamed sheet (verdict.Refused number place) = verdict.Refused number place
+
+abbrev pub misnaming : Gate Group
+misnaming = judging (λ m s now. renamed (historyOf s) (ours .judge m s now))
 
 -- ---- reads
 
