@@ -250,6 +250,8 @@ static void histories(void)
     judged("judge: a sheet's strip that starts with a remove", 8, FERRULEBEE_SJ, 4, FERRULEBEE_SR, 9, 14);
     judged("judge: granted", most, FERRULEBEE_LJ, most, FERRULEBEE_LA, FERRULEBEE_TICKS, 101);
     judged("judge: two empty strips", 0, FERRULEBEE_SJ, 0, FERRULEBEE_SA, 0, 103);
+    judged("judge: ended by a strict leave", most, FERRULEBEE_SJ, 4, FERRULEBEE_SA, FERRULEBEE_TICKS, 104);
+    judged("judge: ended by a strict remove", 4, FERRULEBEE_SJ, most, FERRULEBEE_SA, FERRULEBEE_TICKS, 105);
     evidence("evidence: from the add to the end", 3, 2, 9, 2);
     evidence("evidence: denied", 0, 2, 9, 0);
     evidence("evidence: refused, now too late", 3, 2, FERRULEBEE_TICKS + 1, 0);

@@ -35,8 +35,8 @@ pub enum Moment {
 #[derive(Clone, Copy, Debug, PartialEq, Eq)]
 pub enum Cause {
     None,
-    StrictLeave,
-    StrictRemove,
+    StrictLeave(u32),
+    StrictRemove(u32),
 }
 
 /// The judge as the plot loader asks it: strips as bytes, the answer packed.
@@ -45,8 +45,8 @@ pub fn judge_bytes(model: &[u8], sheet: &[u8], now: u32) -> u64 {
         Ok(Verdict::Granted(Moment::ByAdd(tick))) => (101, tick),
         Ok(Verdict::Granted(Moment::ByJoin(tick))) => (102, tick),
         Ok(Verdict::Denied(Cause::None)) => (103, 0),
-        Ok(Verdict::Denied(Cause::StrictLeave)) => (104, 0),
-        Ok(Verdict::Denied(Cause::StrictRemove)) => (105, 0),
+        Ok(Verdict::Denied(Cause::StrictLeave(tick))) => (104, tick),
+        Ok(Verdict::Denied(Cause::StrictRemove(tick))) => (105, tick),
         Err(refusal) => (refusal.number, refusal.place.unwrap_or(0)),
     };
     u64::from(code) << 32 | u64::from(value)
@@ -134,9 +134,9 @@ pub fn judge<W: Word>(model: &[W], sheet: &[W]) -> Verdict {
             verdict = Verdict::Granted(Moment::ByJoin(now));
         } else if matches!(verdict, Verdict::Granted(_)) {
             if model == SL {
-                verdict = Verdict::Denied(Cause::StrictLeave);
+                verdict = Verdict::Denied(Cause::StrictLeave(now));
             } else if sheet == SR {
-                verdict = Verdict::Denied(Cause::StrictRemove);
+                verdict = Verdict::Denied(Cause::StrictRemove(now));
             }
         }
     }

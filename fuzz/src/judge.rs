@@ -8,7 +8,7 @@ mod words;
 
 use chosen::chosen;
 use common::{case_wanted, differs, hexadecimal, reading, tally};
-use second::judge::{events, judge_bytes, words as words_of, Cause, Moment, Verdict};
+use second::judge::{events, judge_bytes, packed, words as words_of};
 use second::limits::LAST_TICK;
 use second::wrong::{verdict_by, Reading};
 use strips::{lengthened, parts};
@@ -51,13 +51,7 @@ fn expected(model: &[u8], sheet: &[u8], now: u32) -> u64 {
         return right;
     }
     let (model, sheet) = (events(&words_of(model)), events(&words_of(sheet)));
-    match verdict_by(reading(), &model, &sheet) {
-        Verdict::Granted(Moment::Add(tick)) => (101 << 32) + u64::from(tick),
-        Verdict::Granted(Moment::Join(tick)) => (102 << 32) + u64::from(tick),
-        Verdict::Denied(Cause::None) => 103 << 32,
-        Verdict::Denied(Cause::StrictLeave) => 104 << 32,
-        Verdict::Denied(Cause::StrictRemove) => 105 << 32,
-    }
+    packed(Ok(verdict_by(reading(), &model, &sheet)))
 }
 
 fn print_case(now: u32, model: &[u8], sheet: &[u8]) {

@@ -2,6 +2,7 @@
 pub mod Alike
 pub mod Closes
 pub mod Counted
+pub mod Ended
 pub mod Gates
 pub mod Lines
 pub mod Moving

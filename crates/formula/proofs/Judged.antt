@@ -1,25 +1,24 @@
 -- `verdict` is what the formula means: it is Judged, and whatever is Judged is it. Assumes nothing.
 use mathlib.Core.Path.{_≡_, refl, sym, ap, _∙_}
-use mathlib.Core.Bool.{Bool, true, false, cond, _&&_, _||_}
+use mathlib.Core.Bool.{Bool, true, false, cond, _&&_}
 use mathlib.Core.Logic.{_⊎_, inl, inr, ⊎-elim}
 use Prim.Native.Nat.{ℕ, zero, suc, _≤_, _<_}
 use native.Mathlib.Omega.{arith}
 use native.Mathlib.Nat.{eq-or-lt-of-le}
 use lib.Dec.{eqb, ltb}
 use borrow.Author.Tests.{lt-ltb, ltb-true, ltb-false, ne-eqb, eq-eqb, eqb-true, eqb-false}
-use Rattle.base.specs.First.{first}
-use Rattle.base.proofs.First.{first-is, first-before, first-there, first-le}
+use Rattle.base.proofs.First.{first-is, first-before, first-there}
 use Rattle.base.proofs.Truth.{either, both}
 use Rattle.rules.specs.Kinds as kinds
 use Rattle.formula.specs.declared.Verdict.{Verdict}
 use Rattle.formula.specs.declared.Verdict.the-variants.{Granted, Denied}
 use Rattle.formula.specs.declared.Moment.the-variants.{Add, Join}
 use Rattle.formula.specs.declared.Cause.the-variants.{None, StrictLeave, StrictRemove}
-use Rattle.formula.specs.Formula.{History, SL, ByAdd, Moment, Strict, Grant}
+use Rattle.formula.specs.Formula.{History, Moment, Strict, Grant}
 use Rattle.formula.specs.Ticks.{byAdd, moment, strict, grant}
 use Rattle.formula.specs.Verdict.{latest, earliest, grantedAt, denied, verdict}
 use Rattle.formula.specs.Judged.{Latest, Earliest, Judged, by-add, by-join, none, strict-leave, strict-remove}
-use Rattle.formula.proofs.Says.{Says, says-eq, says-not}
+use Rattle.formula.proofs.Says.{Says, says-not}
 use Rattle.formula.proofs.Held.{grant-moment, kept}
 use Rattle.formula.proofs.Meaning.{means-add, means-moment, means-strict, means-grant}
 

@@ -1,13 +1,13 @@
 -- What the judge says of a history at tick now.
 use Prim.Native.Nat.{ℕ, zero, suc}
-use mathlib.Core.Bool.{Bool, cond, _&&_}
+use mathlib.Core.Bool.{cond, _&&_}
 use lib.Dec.{eqb, ltb}
 use Rattle.base.specs.First.{first}
 use Rattle.rules.specs.Kinds.{SL}
 use Rattle.formula.specs.Formula.{History}
 use Rattle.formula.specs.Ticks.{byAdd, moment, strict, grant}
 use Rattle.formula.specs.declared.Verdict.{Verdict}
-use Rattle.formula.specs.declared.Verdict.the-variants.{Granted, Denied, Refused}
+use Rattle.formula.specs.declared.Verdict.the-variants.{Granted, Denied}
 use Rattle.formula.specs.declared.Moment.the-variants.{Add, Join}
 use Rattle.formula.specs.declared.Cause.the-variants.{None, StrictLeave, StrictRemove}
 

@@ -1,19 +1,10 @@
 -- What the judge's promise says in the formula's words. Assumes nothing.
 use mathlib.Core.Path.{_≡_, refl, sym, _∙_}
 use mathlib.Core.Bool.{true≢false}
-use mathlib.Core.Logic.{_⊎_, inl, inr, ⊎-elim, _↔_}
+use mathlib.Core.Logic.{_↔_}
 use mathlib.Core.List.{List}
-use Prim.Native.Nat.{ℕ, _<_}
-use native.Mathlib.Omega.{arith}
-use lib.Dec.{eqb}
-use lib.ListN.{length, getD}
-use denote.Ref.{RefT}
-use borrow.Author.Tests.{eq-eqb, ne-eqb}
-use Rattle.base.proofs.First.{first-is}
-use Rattle.rules.specs.Ranges.{ticks}
-use Rattle.rules.specs.Kinds.{quiet, SA, LA, LJ}
-use Rattle.event.specs.Word.{tickOf, kindOf}
-use Rattle.formula.specs.Formula.{Grant, ByAdd, ByJoin}
+use Prim.Native.Nat.{ℕ}
+use Rattle.formula.specs.Formula.{Grant}
 use Rattle.formula.specs.Verdict.{verdict}
 use Rattle.formula.specs.Judged.{Judged, by-add, by-join, none, strict-leave, strict-remove}
 use Rattle.formula.specs.declared.Verdict.{Verdict}
@@ -22,9 +13,7 @@ use Rattle.formula.specs.declared.Moment.{Moment}
 use Rattle.formula.specs.declared.Moment.the-variants.{Add, Join}
 use Rattle.formula.proofs.Held.{grant-moment}
 use Rattle.formula.proofs.Judged.{judged}
-use Rattle.strip.specs.declared.Side.the-variants.{Model, Sheet}
 use Rattle.strip.specs.History.{historyOf}
-use Rattle.strip.proofs.Places.{tickAt, Rising, good-rising, history-means}
 use Rattle.judge.specs.Judge.{StripsAccepted, judgedBy}
 use Rattle.judge.proofs.Checked.{checks}
 

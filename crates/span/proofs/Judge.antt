@@ -36,12 +36,21 @@ module _ (now : ℕ) where
   first-last b (p ∷ []) q a x = rw (← x) (a .1)
   first-last b (p ∷ (r ∷ l)) q a x = first-last (suc (p .last)) (r ∷ l) q (a .3) x
 
-  -- its last tick lies in it, and the tick before its first lies in no pair
-  last-lies : (b : ℕ) (l : List Span) (q : Span) → Apart b now l → LastIs l q → LiesIn (q .last) l
+  -- its last tick lies in it, no later tick lies in a pair, nor does the tick before its first
+  pub last-lies : (b : ℕ) (l : List Span) (q : Span) → Apart b now l → LastIs l q → LiesIn (q .last) l
   unfolding Apart LastIs LiesIn
   last-lies b [] q a x = absurd x
   last-lies b (p ∷ []) q a x = inl (rw (← x) (a .1), rw x (omega arith))
   last-lies b (p ∷ (r ∷ l)) q a x = inr (last-lies (suc (p .last)) (r ∷ l) q (a .3) x)
+
+  pub lies-before : (b : ℕ) (l : List Span) (q : Span) (t : ℕ) → Apart b now l → LastIs l q → LiesIn t l → t ≤ q .last
+  unfolding Apart LastIs LiesIn
+  lies-before b [] q t a x y = absurd y
+  lies-before b (p ∷ []) q t a x y = ⊎-elim (λ z. rw (← x) (z .1)) (λ z. absurd z) y
+  lies-before b (p ∷ (r ∷ l)) q t a x y = ⊎-elim
+      (λ z. omega (arith, z .1, last-after (suc (p .last)) (r ∷ l) q (a .3) x, first-last (suc (p .last)) (r ∷ l) q (a .3) x))
+      (λ z. lies-before (suc (p .last)) (r ∷ l) q t (a .3) x z)
+      y
 
   not-before : (b : ℕ) (l : List Span) (q : Span) (u : ℕ) → Apart b now l → LastIs l q → suc u ≡ q .first → LiesIn u l → ⊥
   unfolding Apart LastIs LiesIn
@@ -85,6 +94,11 @@ one-last (r ∷ []) p q x y = sym x ∙ y
 one-last (r ∷ (t ∷ l)) p q x y = one-last (t ∷ l) p q x y
 
 -- ---- the judge's verdict
+
+-- denied by a strict cause with tick e
+abbrev pub StrictAt : Verdict → ℕ → Type 0
+StrictAt v e = (v ≡ Denied (StrictLeave e)) ⊎ (v ≡ Denied (StrictRemove e))
+
 module _ (m s : List ℕ) (now : ℕ) (a : StripsAccepted m s now) (l : List Span) (x : Spans (historyOf m) (historyOf s) now l) where
   -- the last span, of a grant that holds at now since the latest moment t
   open-since : (t : ℕ) → Grant (historyOf m) (historyOf s) now → Latest (historyOf m) (historyOf s) now t → OpenSince l now t
@@ -137,10 +151,7 @@ module _ (m s : List ℕ) (now : ℕ) (a : StripsAccepted m s now) (l : List Spa
       judge-grants m s now a .1 (x .exactly now (lies-after 0 now now l (x .apart) in-it) (omega arith) .0 in-it)
 
   -- and the other way: a last span that is over before now is told by a strict cause with the tick right after it; no span, by none
-  abbrev Strictly : Verdict → ℕ → Type 0
-  Strictly v e = (v ≡ Denied (StrictLeave e)) ⊎ (v ≡ Denied (StrictRemove e))
-
-  over : (v : Verdict) → VerdictSays l now v → (q : Span) → LastIs l q → q .last < now → Strictly v (suc (q .last))
+  over : (v : Verdict) → VerdictSays l now v → (q : Span) → LastIs l q → q .last < now → StrictAt v (suc (q .last))
   unfolding LastIs
   over (Granted y) o q last b = let e = ap (λ (p : Span). p .last) (one-last l _ _ (o .last) last) in absurd (omega (arith, o .ends, e))
   over (Denied None) o q last b = absurd (subst (λ (k : List Span). LastIs k q) o last)
@@ -148,7 +159,7 @@ module _ (m s : List ℕ) (now : ℕ) (a : StripsAccepted m s now) (l : List Spa
   over (Denied (StrictRemove e)) o q last b = inr (ap (λ (k : ℕ). Denied (StrictRemove k)) (sym (o .ends) ∙ ap (λ (p : Span). suc (p .last)) (one-last l _ _ (o .last) last)))
   over (Refused number place) o q last b = absurd o
 
-  pub over-denied : (q : Span) → LastIs l q → q .last < now → Strictly (judgedBy m s now) (suc (q .last))
+  pub over-denied : (q : Span) → LastIs l q → q .last < now → StrictAt (judgedBy m s now) (suc (q .last))
   over-denied = over (judgedBy m s now) judge-says
 
   spanless : (v : Verdict) → VerdictSays l now v → l ≡ [] → v ≡ Denied None
