@@ -21,7 +21,7 @@ module _ (m s : List ℕ) (now : ℕ) (a : StripsAccepted m s now) where
   judges : judgedBy m s now ≡ verdict (historyOf m) (historyOf s) now
   judges = checks m s now Refused (verdict (historyOf m) (historyOf s) now) a
 
-  -- the answer to accepted strips is what the formula means: granted or denied, the latest moment, the cause
+  -- the answer to accepted strips is what the formula means: granted or denied, the latest moment, the cause with its tick
   pub judge-means : Judged (historyOf m) (historyOf s) now (judgedBy m s now)
   judge-means = rw judges (judged (historyOf m) (historyOf s) now)
 
