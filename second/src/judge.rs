@@ -12,12 +12,12 @@ pub enum Moment {
     Join(u32),
 }
 
-/// Why a grant is not there.
+/// Why a grant is not there: there never was one, or a strict event ended it in its tick.
 #[derive(Clone, Copy, Debug, PartialEq, Eq)]
 pub enum Cause {
     None,
-    StrictLeave,
-    StrictRemove,
+    StrictLeave(u32),
+    StrictRemove(u32),
 }
 
 #[derive(Clone, Copy, Debug, PartialEq, Eq)]
@@ -93,14 +93,15 @@ pub fn verdict(history: &History) -> Verdict {
     }
 }
 
-/// The earliest SL or SR after the latest moment; both in one tick: strict leave.
+/// The earliest SL or SR after the latest moment, with its tick; both in that tick: strict leave.
 fn cause_after(history: &History, latest: usize) -> Cause {
     for t in latest + 1..history.ticks.len() {
+        let tick = history.ticks[t].tick;
         if history.has(t, &[Kind::SL]) {
-            return Cause::StrictLeave;
+            return Cause::StrictLeave(tick);
         }
         if history.has(t, &[Kind::SR]) {
-            return Cause::StrictRemove;
+            return Cause::StrictRemove(tick);
         }
     }
     panic!("a moment with no SL and no SR after it is a grant");
@@ -121,20 +122,26 @@ pub fn evidence<'a>(model: &'a [u32], sheet: &'a [u32], now: u32) -> &'a [u32] {
     }
 }
 
-/// The judge as C asks it: strips as bytes, the answer code × 2^32 + value.
+/// The judge as C asks it: strips as bytes, the answer packed.
 pub fn judge_bytes(model: &[u8], sheet: &[u8], now: u32) -> u64 {
-    let (code, value) = match judge_byte_strips(model, sheet, now) {
+    packed(judge_byte_strips(model, sheet, now))
+}
+
+/// The judge's answer as C gets it: code × 2^32 + value.
+pub fn packed(answer: Result<Verdict, Refusal>) -> u64 {
+    let (code, value) = match answer {
         Ok(Verdict::Granted(Moment::Add(tick))) => (101, tick),
         Ok(Verdict::Granted(Moment::Join(tick))) => (102, tick),
         Ok(Verdict::Denied(Cause::None)) => (103, 0),
-        Ok(Verdict::Denied(Cause::StrictLeave)) => (104, 0),
-        Ok(Verdict::Denied(Cause::StrictRemove)) => (105, 0),
+        Ok(Verdict::Denied(Cause::StrictLeave(tick))) => (104, tick),
+        Ok(Verdict::Denied(Cause::StrictRemove(tick))) => (105, tick),
         Err(refusal) => (refusal.number, refusal.place.unwrap_or(0)),
     };
     (u64::from(code) << 32) + u64::from(value)
 }
 
-fn judge_byte_strips(model: &[u8], sheet: &[u8], now: u32) -> Result<Verdict, Refusal> {
+/// The judge on strips of bytes, four a word.
+pub fn judge_byte_strips(model: &[u8], sheet: &[u8], now: u32) -> Result<Verdict, Refusal> {
     if now > LAST_TICK {
         return Err(Refusal::plain(refusal::NOW));
     }
@@ -155,6 +162,11 @@ fn fits_a_strip(bytes: &[u8]) -> bool {
 /// Little-endian words of whole bytes.
 pub fn words(bytes: &[u8]) -> Vec<u32> {
     bytes.chunks_exact(WORD_BYTES).map(|b| u32::from_le_bytes([b[0], b[1], b[2], b[3]])).collect()
+}
+
+/// The other way round.
+pub fn bytes(words: &[u32]) -> Vec<u8> {
+    words.iter().flat_map(|word| word.to_le_bytes()).collect()
 }
 
 pub fn events(words: &[u32]) -> Vec<Event> {

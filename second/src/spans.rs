@@ -2,7 +2,7 @@
 
 use crate::event::{Event, Kind};
 use crate::formula::History;
-use crate::judge::{check_call, events};
+use crate::judge::{check_call, events, packed, Cause, Moment, Verdict};
 use crate::refusal::{self, Refusal};
 
 /// The numbers that a span takes in a lent list: its first tick and its last.
@@ -47,6 +47,22 @@ pub fn spans_tick_by_tick(model: &[Event], sheet: &[Event], now: u32) -> Vec<Spa
     let history = History::of_every_tick(model, sheet, now);
     let granted = (0..history.ticks.len()).filter(|&t| history.grant_at(t));
     joined(granted.map(|t| history.ticks[t].tick).map(|tick| Span { first: tick, last: tick }))
+}
+
+/// The judge's number and the spans of the same strips go together (RULES.md 7): both are refused
+/// alike. Granted, the last span ends at now, and has the moment in it. Denied, there is no span, or
+/// the cause's tick is right after the last.
+pub fn tied(judged: u64, spans: &Result<Vec<Span>, Refusal>, now: u32) -> bool {
+    let answers = |verdicts: &[Verdict]| verdicts.iter().any(|&v| judged == packed(Ok(v)));
+    let granted = |t| answers(&[Moment::Add(t), Moment::Join(t)].map(Verdict::Granted));
+    let ended = |t| answers(&[Cause::StrictLeave(t), Cause::StrictRemove(t)].map(Verdict::Denied));
+    let value = judged as u32;
+    match spans.as_ref().map(|spans| spans.last()) {
+        Err(&refusal) => judged == packed(Err(refusal)),
+        Ok(None) => answers(&[Verdict::Denied(Cause::None)]),
+        Ok(Some(open)) if open.last == now => (open.first..=now).contains(&value) && granted(value),
+        Ok(Some(over)) => ended(over.last + 1),
+    }
 }
 
 /// Parts by rising first tick, made one where no tick lies between them.

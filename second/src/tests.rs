@@ -5,7 +5,7 @@ use crate::event::{Event, Kind, Side, KINDS};
 use crate::files::Memory;
 use crate::formula::History;
 use crate::group::{mask, Group};
-use crate::judge::{self, evidence, judge, judge_bytes, Cause, Moment, Verdict};
+use crate::judge::{self, bytes, evidence, judge, judge_bytes, Cause, Moment, Verdict};
 use crate::keeper::{run, Keeper, HELP};
 use crate::listing::listing;
 use crate::record::GroupRecord;
@@ -16,13 +16,10 @@ use crate::store::deliver;
 use crate::wrong::{spans_by, verdict_by, Reading, READINGS};
 use std::mem::size_of;
 
+mod cause;
 mod page;
 
 const FIRST_BOOK: [u32; 8] = [4610, 6144, 9730, 14849, 16386, 16901, 24065, 27648];
-
-fn bytes(words: &[u32]) -> Vec<u8> {
-    words.iter().flat_map(|word| word.to_le_bytes()).collect()
-}
 
 /// `SJ1 LL2` as a strip of carrier 0.
 fn strip(text: &str) -> Vec<u32> {
@@ -49,7 +46,7 @@ fn thirteen_histories() -> [(&'static str, &'static str, u32, Verdict); 13] {
         ("LJ1 LL2", "SA2", 2, NONE),
         ("LJ2", "LA1 LR2", 2, NONE),
         ("SJ1 LL3", "SA2 LR4", 5, ADD(2)),
-        ("SJ1 SL3", "SA2 SR3", 3, Verdict::Denied(Cause::StrictLeave)),
+        ("SJ1 SL3", "SA2 SR3", 3, Verdict::Denied(Cause::StrictLeave(3))),
         ("SJ1 LL2 SJ4", "LA3", 4, NONE),
         ("SJ1 SL2 LJ3", "LA1", 3, JOIN(3)),
         ("SJ1", "SA2 SR3 LA4", 4, ADD(4)),
@@ -90,8 +87,10 @@ fn the_codes_for_c() {
     assert_eq!(ask("SJ1", "SA1", 1), (101, 1));
     assert_eq!(ask("LJ2", "LA1", 2), (102, 2));
     assert_eq!(ask("", "", 0), (103, 0));
-    assert_eq!(ask("SJ1 SL3", "SA2 SR3", 3), (104, 0));
-    assert_eq!(ask("SJ1", "SA2 SR3", 3), (105, 0));
+    assert_eq!(ask("SJ1 SL3", "SA2 SR3", 3), (104, 3));
+    assert_eq!(ask("SJ1", "SA2 SR3", 3), (105, 3));
+    assert_eq!(ask("SJ1 SL1000000", "SA2", 1_000_000), (104, 1_000_000));
+    assert_eq!(ask("SJ1", "SA2 SR1000000", 1_000_000), (105, 1_000_000));
     assert_eq!(ask("SJ1", "", 0), (13, 0));
     assert_eq!(ask("SJ1 SL1", "", 1), (13, 1));
     assert_eq!(ask("", "SA1 LJ2", 2), (14, 1));

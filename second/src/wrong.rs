@@ -1,12 +1,16 @@
-//! The readings that look right and aren't (RULES.md 15), on purpose: the programs take
-//! one from the environment as SECOND_WRONG, so that `compare` can be seen to find it.
+//! The readings that look right and aren't (RULES.md 15, and 6.1 for the cause), on purpose: the
+//! programs take one from the environment as SECOND_WRONG, so that `compare` can be seen to find
+//! it.
 
 use crate::bars::beginnings;
 use crate::event::{Event, Kind};
 use crate::formula::History;
-use crate::judge::{verdict, Cause, Moment, Verdict};
+use crate::judge::{events, judge_byte_strips, packed, verdict, words, Cause, Moment, Verdict};
 use crate::seen::earliest;
 use crate::spans::{joined, spans_of_history, Span};
+use cause::{miscaused, WrongCause};
+
+pub mod cause;
 
 #[derive(Clone, Copy, Debug, Default, PartialEq, Eq)]
 pub enum Reading {
@@ -20,12 +24,14 @@ pub enum Reading {
     Latest,
     /// Refuses a delivery for a fault in an ungranted entry.
     Entry,
+    /// Has every verdict right, but for a strict cause.
+    Cause(WrongCause),
 }
 
 impl Reading {
-    /// It takes the formula as it is; what it has wrong is a delivery, if anything.
+    /// It takes the formula as it is; what it has wrong is a delivery or a cause, if anything.
     fn has_the_formula(self) -> bool {
-        matches!(self, Reading::Right | Reading::Entry)
+        matches!(self, Reading::Right | Reading::Entry | Reading::Cause(_))
     }
 }
 
@@ -36,16 +42,42 @@ pub const READINGS: [(&str, Reading); 4] = [
     ("entry", Reading::Entry),
 ];
 
+/// No program tells a cause: these are for a stand-in of the C library.
+pub const CAUSE_READINGS: [(&str, Reading); 8] = [
+    ("cause-bare", Reading::Cause(WrongCause::Bare)),
+    ("cause-moment", Reading::Cause(WrongCause::Moment)),
+    ("cause-before", Reading::Cause(WrongCause::Before)),
+    ("cause-later", Reading::Cause(WrongCause::Later)),
+    ("cause-remove", Reading::Cause(WrongCause::Remove)),
+    ("cause-last", Reading::Cause(WrongCause::Last)),
+    ("cause-earliest", Reading::Cause(WrongCause::Earliest)),
+    ("cause-first-grant", Reading::Cause(WrongCause::FirstGrant)),
+];
+
 /// The reading that SECOND_WRONG names; the right one when it isn't set.
 pub fn reading_from_environment() -> Result<Reading, String> {
     let name = std::env::var("SECOND_WRONG").unwrap_or_default();
     if name.is_empty() {
         return Ok(Reading::Right);
     }
-    let known = READINGS.iter().find(|(word, _)| *word == name);
-    known
-        .map(|(_, reading)| *reading)
-        .ok_or_else(|| format!("SECOND_WRONG={name} is not known: today, arrival, latest or entry"))
+    reading_named(&name).ok_or_else(|| {
+        let known: Vec<&str> = wrong_readings().map(|(name, _)| name).collect();
+        format!("SECOND_WRONG={name} is not known: {}", known.join(", "))
+    })
+}
+
+pub fn reading_named(name: &str) -> Option<Reading> {
+    wrong_readings().find(|(known, _)| *known == name).map(|(_, reading)| reading)
+}
+
+fn wrong_readings() -> impl Iterator<Item = (&'static str, Reading)> {
+    READINGS.into_iter().chain(CAUSE_READINGS)
+}
+
+/// The judge of a reading as C asks it; what is refused, each of them refuses.
+pub fn judge_bytes_by(reading: Reading, model: &[u8], sheet: &[u8], now: u32) -> u64 {
+    let by_reading = |_| verdict_by(reading, &events(&words(model)), &events(&words(sheet)));
+    packed(judge_byte_strips(model, sheet, now).map(by_reading))
 }
 
 /// The verdict of a reading on the strips of one pair, as of the last close.
@@ -57,6 +89,7 @@ pub fn verdict_by(reading: Reading, model: &[Event], sheet: &[Event]) -> Verdict
         Reading::Latest => {
             verdict(&History::of_event_ticks(from_last_entry(model), from_last_entry(sheet)))
         }
+        Reading::Cause(wrong) => miscaused(wrong, &History::of_event_ticks(model, sheet)),
     }
 }
 
@@ -153,8 +186,8 @@ fn arrive(
     match kind {
         Kind::SA | Kind::LA if model.is_some() => Verdict::Granted(Moment::Add(tick)),
         Kind::LJ if sheet == Some(Kind::LA) => Verdict::Granted(Moment::Join(tick)),
-        Kind::SL => Verdict::Denied(Cause::StrictLeave),
-        Kind::SR => Verdict::Denied(Cause::StrictRemove),
+        Kind::SL => Verdict::Denied(Cause::StrictLeave(tick)),
+        Kind::SR => Verdict::Denied(Cause::StrictRemove(tick)),
         _ => before,
     }
 }

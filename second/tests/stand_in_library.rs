@@ -1,6 +1,7 @@
 //! Stands in for the gate's C library while compare is tried: the second program under the
 //! gate's names. SECOND_WRONG_LIBRARY names the call that is to be wrong, in one way each; the
-//! spans have further names, for the ways in which they may be misread.
+//! spans have further names, for the ways in which they may be misread, and the judge takes those
+//! of the wrong readings.
 
 use second::answers::{
     BookReadAnswer, BookWriteAnswer, DeliveryAnswer, GroupAnswer, Part, SpansAnswer, ValueAnswer,
@@ -13,12 +14,17 @@ use second::judge;
 use second::record::GroupRecord;
 use second::refusal::{self, Refusal};
 use second::spans::{listed, spans, Span, SPAN_NUMBERS};
+use second::wrong::{judge_bytes_by, reading_named};
 use std::slice::{from_raw_parts, from_raw_parts_mut};
 use std::sync::OnceLock;
 
+fn named() -> &'static str {
+    static NAMED: OnceLock<String> = OnceLock::new();
+    NAMED.get_or_init(|| std::env::var("SECOND_WRONG_LIBRARY").unwrap_or_default())
+}
+
 fn wrong(call: &str) -> bool {
-    static WRONG: OnceLock<String> = OnceLock::new();
-    WRONG.get_or_init(|| std::env::var("SECOND_WRONG_LIBRARY").unwrap_or_default()) == call
+    named() == call
 }
 
 /// Wrong: the group of refusal 9 keeps the number that was asked for.
@@ -175,7 +181,8 @@ pub unsafe extern "C" fn ferrulebee_deliver(
     DeliveryAnswer::from(answer.map(|delivery| delivery.len()))
 }
 
-/// Wrong: a moment by join is a tick early when it isn't the model's first record.
+/// Wrong: a moment by join is a tick early when it isn't the model's first record; or whatever the
+/// reading that is named has wrong.
 #[no_mangle]
 pub unsafe extern "C" fn judge(
     model: *const u8,
@@ -185,7 +192,7 @@ pub unsafe extern "C" fn judge(
     now: u32,
 ) -> u64 {
     let (model, sheet) = (from_raw_parts(model, model_bytes), from_raw_parts(sheet, sheet_bytes));
-    let packed = judge::judge_bytes(model, sheet, now);
+    let packed = judge_bytes_by(reading_named(named()).unwrap_or_default(), model, sheet, now);
     packed - u64::from(wrong("judge") && packed >> 32 == 102 && model.len() > 4)
 }
 

@@ -12,9 +12,9 @@ use second::answers::ValueAnswer;
 use second::event::{Event, Side};
 use second::formula::History;
 use second::group::Group;
-use second::judge::{judge, judge_bytes, verdict, Verdict};
+use second::judge::{bytes, judge, judge_bytes, packed, verdict, Verdict};
 use second::record::GroupRecord;
-use second::spans::{spans, spans_tick_by_tick, SPAN_NUMBERS};
+use second::spans::{spans, spans_tick_by_tick, tied, SPAN_NUMBERS};
 use std::io;
 
 const MOST_TICKS: u32 = 6;
@@ -41,10 +41,6 @@ fn strips(side: Side, ticks: u32) -> Vec<Vec<Event>> {
 
 fn words(strip: &[Event]) -> Vec<u32> {
     strip.iter().map(|event| event.word()).collect()
-}
-
-fn bytes(words: &[u32]) -> Vec<u8> {
-    words.iter().flat_map(|word| word.to_le_bytes()).collect()
 }
 
 /// Compares everything; the first case that differs is given back. The programs come first:
@@ -96,8 +92,9 @@ fn one_history(model: &[Event], sheet: &[Event], now: u32) -> Option<Case> {
     let by_formula = verdict(&History::of_every_tick(model, sheet, now));
     let by_judge = judge(&m, &s, now);
     assert_eq!(by_judge, Ok(by_formula), "the second program's own judge: {model:?} {sheet:?}");
-    let by_tick = spans_tick_by_tick(model, sheet, now);
-    assert_eq!(spans(&m, &s, now), Ok(by_tick), "its own spans: {model:?} {sheet:?}");
+    let by_tick = Ok(spans_tick_by_tick(model, sheet, now));
+    assert_eq!(spans(&m, &s, now), by_tick, "its own spans: {model:?} {sheet:?}");
+    assert!(tied(packed(by_judge), &by_tick, now), "its own tie: {model:?} {sheet:?}");
     let group = group_of(model, sheet, now);
     let granted = group.read(0, 0) == Ok(true);
     assert_eq!(granted, by_formula.is_granted(), "its own group: {model:?} {sheet:?}");

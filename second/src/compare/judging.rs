@@ -3,11 +3,17 @@
 use crate::books::event;
 use crate::case::Case;
 use crate::chance::Chance;
+use crate::spanning;
 use second::event::Side;
 use second::limits::{LAST_TICK, STRIP_WORDS};
 
+/// Some with many spans, so that a cause has others before it and after, or with their last event
+/// in the last tick.
 pub fn judged(chance: &mut Chance) -> Case {
-    let (model, sheet, now) = strips(chance);
+    let (model, sheet, now) = match chance.percent(20) {
+        true => spanning::strips(chance),
+        false => strips(chance),
+    };
     Case::judge(model, sheet, now)
 }
 

@@ -55,14 +55,14 @@ compare --help                    these lines
 --spans PATH     the gate's spans         --out FOLDER    where failing cases go (failures)
 --from CASE      the number of the first case (0)
 
-`library` and `spans` fail, too, when 10000 cases or more never met some sort of answer.
+`library`, `judge` and `spans` fail, too, when 10000 cases or more never met some sort of answer.
 Without a SEED, or with SEED 0, a fresh one is taken; it is always printed. The programs
 beside compare are run when no path of a program is given. Case 3 of seed 9 alone is run again by
 `compare random 9 1 --from 3`. The exit status is 0 when all answers
 are equal, 1 when a case differs, 2 when something can't be run.
 ";
 
-/// So many cases of `library`, or of `spans`, have to meet every sort of answer.
+/// So many cases of calls on the library have to meet every sort of answer.
 const ENOUGH_TO_MEET_ALL: u64 = 10_000;
 
 struct Options {
@@ -158,9 +158,9 @@ impl Session<'_> {
             "exhaustive" => self.exhaustive(),
             "random" => self.cases(command, seed, count, random_case),
             "demand3" => self.cases(command, seed, count, sound_pair),
-            "library" => self.library(seed, count),
-            "judge" => self.judge(seed, count),
-            "spans" => self.spans(seed, count),
+            "library" => self.calls(command, seed, count, author::calls, |_| true),
+            "judge" => self.calls(command, seed, count, judging::judged, |call| call == "judge"),
+            "spans" => self.calls(command, seed, count, spanning::spanned, |call| call == "spans"),
             "lockstep" => self.lockstep(seed, count),
             "tally" => Ok(self.tally(seed, count)),
             "long" => self.cases(command, seed, 1, long::long),
@@ -209,46 +209,26 @@ impl Session<'_> {
         Ok(true)
     }
 
-    fn judge(&self, seed: u64, count: u64) -> Result<bool, String> {
-        println!("judge: {}", gate::notice());
-        match gate::LIBRARY {
-            Some(_) => self.cases("judge", seed, count, judging::judged),
-            None => Ok(true),
-        }
-    }
-
-    fn library(&self, seed: u64, count: u64) -> Result<bool, String> {
-        println!("library: {}", gate::notice());
-        if gate::LIBRARY.is_none() {
-            return Ok(true);
-        }
-        self.library_cases("library", seed, count, author::calls, |_| true)
-    }
-
-    fn spans(&self, seed: u64, count: u64) -> Result<bool, String> {
-        println!("spans: {}", gate::notice());
-        if gate::LIBRARY.is_none() {
-            return Ok(true);
-        }
-        self.library_cases("spans", seed, count, spanning::spanned, |call| call == "spans")
-    }
-
     /// Cases of calls on the library, which have to meet every sort of answer of some calls.
-    fn library_cases(
+    fn calls(
         &self,
         name: &str,
         seed: u64,
         count: u64,
         make: fn(&mut Chance) -> Case,
-        calls: fn(&str) -> bool,
+        counted: fn(&str) -> bool,
     ) -> Result<bool, String> {
+        println!("{name}: {}", gate::notice());
+        if gate::LIBRARY.is_none() {
+            return Ok(true);
+        }
         let mut met = Met::default();
         let differs = |case: &Case| library::difference(case, &mut met);
         if !self.cases_by(name, seed, count, make, differs)? {
             return Ok(false);
         }
         println!("{name}: {} calls compared, and these answers met:", met.calls());
-        Ok(met.print(calls) || count < ENOUGH_TO_MEET_ALL)
+        Ok(met.print(counted) || count < ENOUGH_TO_MEET_ALL)
     }
 
     fn lockstep(&self, seed: u64, count: u64) -> Result<bool, String> {

@@ -15,18 +15,18 @@ use crate::case::Case;
 use crate::differ::Difference;
 use crate::gate::{notice, Library, LIBRARY};
 use lending::{same_lent, Lent};
-use met::{sort, Met};
+use met::{judge_sort, sort, Met};
 use numbers::{same, Code, Judged};
 use second::answers::{
     BookReadAnswer, BookWriteAnswer, DeliveryAnswer, Part, SpansAnswer, ValueAnswer,
 };
 use second::book;
 use second::group::{mask, Group};
-use second::judge::{evidence, judge, judge_bytes, words, Moment, Verdict};
+use second::judge::{bytes, evidence, judge, judge_bytes, words, Moment, Verdict};
 use second::limits::{BOOK_HEADER, BOOK_RECORDS, DELIVERY_HEADER, WORD_BYTES};
 use second::record::GroupRecord;
-use second::refusal::Refusal;
-use second::spans::{listed, spans, Span, SPAN_NUMBERS};
+use second::refusal::{self, Refusal};
+use second::spans::{listed, spans, tied, Span, SPAN_NUMBERS};
 use station::{Held, Station};
 use std::io;
 
@@ -248,7 +248,7 @@ impl<'a> Calls<'a> {
         same(&expected, &Judged(got))?;
         lent_model.stays("the model's strip", model)?;
         lent_sheet.stays("the sheet's strip", sheet)?;
-        Ok(format!("judge {}", expected.0 >> 32))
+        Ok(judge_sort(expected.0))
     }
 
     fn evidence(&mut self, file: u32, now: u32) -> Compared {
@@ -283,7 +283,7 @@ impl<'a> Calls<'a> {
 }
 
 /// The library's spans of two strips, whose spans are known, for a list with so much room; the
-/// code of the answer.
+/// code of the answer. Where it tells them, its judge has to go with them.
 pub fn same_spans(
     library: &Library,
     model: &[u32],
@@ -303,7 +303,25 @@ pub fn same_spans(
     same_lent("the list", &Lent::room(room).with_front(numbers), &list)?;
     lent_model.stays("the model's strip", model)?;
     lent_sheet.stays("the sheet's strip", sheet)?;
+    if expected.code != refusal::SPAN_LIST {
+        goes_with(found, library.judge(&bytes(model), &bytes(sheet), now), now)?;
+    }
     Ok(expected.code)
+}
+
+/// The gate's judge against the gate's spans, which have been found to be these.
+fn goes_with(spans: &Result<Vec<Span>, Refusal>, judged: u64, now: u32) -> Result<(), Difference> {
+    if tied(judged, spans, now) {
+        return Ok(());
+    }
+    let spans = match spans.as_ref().map(|spans| spans.last()) {
+        Err(refusal) => format!("the spans are {refusal}"),
+        Ok(None) => "there is no span".to_string(),
+        Ok(Some(span)) => format!("the last span is {} to {}", span.first, span.last),
+    };
+    let (code, value) = (judged >> 32, judged as u32);
+    let said = format!("{spans}, and the judge answers code {code} value {value}");
+    Err(Difference { said, sort: "tie".to_string() })
 }
 
 fn code<T>(answer: &Result<T, Refusal>) -> u32 {

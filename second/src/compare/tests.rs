@@ -15,9 +15,9 @@ use crate::spanning::spanned;
 use crate::stores::store_with_entries;
 use second::book;
 use second::group::Group;
-use second::judge::{events, words};
+use second::judge::{bytes, events, judge_bytes, words};
 use second::listing::listing;
-use second::spans::{listed, spans, spans_tick_by_tick};
+use second::spans::{listed, spans, spans_tick_by_tick, tied};
 use second::spans_of_book::USAGE;
 use second::store::deliver;
 use second::wrong::Reading;
@@ -43,8 +43,8 @@ fn stores_with_entries_have_a_good_header() {
     }
 }
 
-/// The second program's own spans, on random strips, against the formula at every tick; with
-/// every number of them up to a few, and many.
+/// The second program's own spans, on random strips, against its judge, and against the formula at
+/// every tick; with every number of them up to a few, and many.
 #[test]
 fn spans_of_random_strips_tick_by_tick() {
     const NEAR: u32 = 60;
@@ -54,7 +54,10 @@ fn spans_of_random_strips_tick_by_tick() {
         let (model, sheet) = (words(case.file(b"model0")), words(case.file(b"sheet0")));
         let line = String::from_utf8_lossy(&case.lines[0].text);
         let now = line.split(' ').nth(2).and_then(|now| now.parse().ok()).unwrap();
-        let Ok(found) = spans(&model, &sheet, now) else { continue };
+        let found = spans(&model, &sheet, now);
+        let judged = judge_bytes(&bytes(&model), &bytes(&sheet), now);
+        assert!(tied(judged, &found, now), "{}", case.to_text());
+        let Ok(found) = found else { continue };
         // As the header says.
         assert!(listed(&found, model.len() + sheet.len()).is_ok());
         if now <= NEAR {

@@ -1,5 +1,6 @@
 //! Which sorts of answers the compared calls had: none may be missing.
 
+use second::limits::LAST_TICK;
 use std::collections::BTreeMap;
 
 /// Every sort of answer, by call; `lent` is a call on a group of any contents.
@@ -27,7 +28,8 @@ const ALL: [(&str, &[&str]); 19] = [
         "refused 27"]),
     ("tick_part", &["records", "empty at the start", "empty between", "empty at the end",
         "not rising"]),
-    ("judge", &["101", "102", "103", "104", "105", "10", "11", "12", "13", "14"]),
+    ("judge", &["101", "102", "103", "104 in tick 2", "104 between", "104 in the last tick",
+        "105 in tick 2", "105 between", "105 in the last tick", "10", "11", "12", "13", "14"]),
     ("evidence", &["of the model", "of the sheet", "denied", "refused"]),
     ("spans", &["none", "one", "many", "refused 10", "refused 11", "refused 12", "refused 13",
         "refused 14", "refused 40"]),
@@ -40,6 +42,19 @@ pub fn sort(call: &str, code: u32, accepted: &str) -> String {
         0 => format!("{call} {accepted}"),
         _ => format!("{call} refused {code}"),
     }
+}
+
+/// The sort of the judge's answer: its code, and for a strict cause where its tick lies. No cause
+/// is earlier than tick 2, right after a moment in tick 1.
+pub fn judge_sort(answer: u64) -> String {
+    let (code, value) = (answer >> 32, answer as u32);
+    let place = match (code, value) {
+        (104 | 105, 2) => " in tick 2",
+        (104 | 105, LAST_TICK) => " in the last tick",
+        (104 | 105, _) => " between",
+        _ => "",
+    };
+    format!("judge {code}{place}")
 }
 
 #[derive(Default)]
