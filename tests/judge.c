@@ -76,6 +76,7 @@ static void ended(void)
     /* both in one tick: the leave, also where the sheet's is the second of its strip */
     texts("SJ1 SL7", "SA2 LR3 SA4 SR7", 9, 104, 7);
     /* strict events before the first moment, and those that ended an earlier grant, are not it */
+    texts("SJ1 SL2 SJ3 SL5 LJ6 SL8", "LA4 SR8 SA9 SR11", 12, 104, 8);
     texts("SJ1 SL2 SJ3 SL6 SJ7 SL8", "SA4 SR6", 8, 104, 6);
     texts("SJ1 SL2 SJ3", "SA4 SR6", 8, 105, 6);
     texts("SJ1 SL3 LJ4 SL9", "LA2", 9, 104, 9);

@@ -8,9 +8,9 @@ mod words;
 
 use chosen::chosen;
 use common::{case_wanted, differs, hexadecimal, reading, tally};
-use second::judge::{events, judge_bytes, packed, words as words_of};
+use second::judge::judge_bytes;
 use second::limits::LAST_TICK;
-use second::wrong::{verdict_by, Reading};
+use second::wrong::{judge_bytes_by, Reading};
 use strips::{lengthened, parts};
 
 fuzz_target!(check, strips::mutate);
@@ -46,12 +46,10 @@ fn compare(now: u32, model: &[u8], sheet: &[u8]) {
 
 /// The second program's answer; a verdict by the wrong reading where one is set.
 fn expected(model: &[u8], sheet: &[u8], now: u32) -> u64 {
-    let right = judge_bytes(model, sheet, now);
-    if reading() == Reading::Right || right >> 32 < 101 {
-        return right;
+    match reading() {
+        Reading::Right => judge_bytes(model, sheet, now),
+        wrong => judge_bytes_by(wrong, model, sheet, now),
     }
-    let (model, sheet) = (events(&words_of(model)), events(&words_of(sheet)));
-    packed(Ok(verdict_by(reading(), &model, &sheet)))
 }
 
 fn print_case(now: u32, model: &[u8], sheet: &[u8]) {

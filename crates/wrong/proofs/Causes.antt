@@ -7,7 +7,7 @@ use native.Mathlib.Omega.{arith}
 use lib.Dec.{eqb}
 use borrow.Author.Tests.{eqb-false}
 use Rattle.base.specs.First.{first}
-use Rattle.rules.specs.Kinds.{SJ, SL, SA, SR}
+use Rattle.rules.specs.Kinds.{SJ, LJ, SL, SA, LA, SR}
 use Rattle.event.specs.Word.{wordOf}
 use Rattle.formula.specs.Answer.{verdictNumber, verdictValue}
 use Rattle.formula.specs.Since.{since}
@@ -25,56 +25,60 @@ use Rattle.demands.specs.Gate.{Gate}
 use Rattle.demands.specs.Two.{DemandTwo}
 use Rattle.wrong.specs.Gates.{undated, momentDated, heldDated, earlyDated, latestStrict, lateDated, misnaming}
 
--- a strict leave before any moment, at 2; the moment at 4; leave and remove together at 6; another strict leave at 8
+-- the rules' example (RULES.md 6.1): a strict leave before any moment, at 2; a grant from 4 that ended at 5, and one from 6 that leave and remove ended
+-- together at 8; another strict remove at 11
 abbrev model : List ℕ
-model = wordOf 1 SJ 0 ∷ wordOf 2 SL 0 ∷ wordOf 3 SJ 0 ∷ wordOf 6 SL 0 ∷ wordOf 7 SJ 0 ∷ wordOf 8 SL 0 ∷ []
+model = wordOf 1 SJ 0 ∷ wordOf 2 SL 0 ∷ wordOf 3 SJ 0 ∷ wordOf 5 SL 0 ∷ wordOf 6 LJ 0 ∷ wordOf 8 SL 0 ∷ []
 
 abbrev sheet : List ℕ
-sheet = wordOf 4 SA 0 ∷ wordOf 6 SR 0 ∷ []
+sheet = wordOf 4 LA 0 ∷ wordOf 8 SR 0 ∷ wordOf 9 SA 0 ∷ wordOf 11 SR 0 ∷ []
 
-accepted : StripsAccepted model sheet 8
+abbrev now : ℕ
+now = 12
+
+accepted : StripsAccepted model sheet now
 unfolding firstBad goodPlace tickBefore first
 accepted = record {
   tick = omega arith;
   short-m = omega arith;
   short-s = omega arith;
-  good-m = all-good Model 8 model (omega arith);
-  good-s = all-good Sheet 8 sheet (omega arith);
+  good-m = all-good Model now model (omega arith);
+  good-s = all-good Sheet now sheet (omega arith);
 }
 
 -- number and value in one
 said : Verdict → ℕ
-said v = 10 * verdictNumber v + verdictValue v
+said v = 100 * verdictNumber v + verdictValue v
 
--- the strict leave of tick 6, and nothing else
-ended-by-leave : (G : Gate Group) → DemandTwo G → said (G .judge model sheet 8) ≡ 1046
+-- the strict leave of tick 8, and nothing else
+ended-by-leave : (G : Gate Group) → DemandTwo G → said (G .judge model sheet now) ≡ 10408
 unfolding said first since inside liberal byAdd byJoin grant latest earliest grantedAt denied verdict historyOf
-ended-by-leave G d = ap said (judged-is (historyOf model) (historyOf sheet) 8 (d .judge model sheet 8 accepted .1))
+ended-by-leave G d = ap said (judged-is (historyOf model) (historyOf sheet) now (d .judge model sheet now accepted .1))
 
-says-other : (G : Gate Group) (n : ℕ) → said (G .judge model sheet 8) ≡ n → eqb n 1046 ≡ false → DemandTwo G → ⊥
-says-other G n e f d = eqb-false n 1046 f (sym e ∙ ended-by-leave G d)
+says-other : (G : Gate Group) (n : ℕ) → said (G .judge model sheet now) ≡ n → eqb n 10408 ≡ false → DemandTwo G → ⊥
+says-other G n e f d = eqb-false n 10408 f (sym e ∙ ended-by-leave G d)
 
 -- what each wrong judge says instead
 pub undates : DemandTwo undated → ⊥
 unfolding said first since inside liberal byAdd byJoin grant latest earliest grantedAt denied verdict tickBefore goodPlace firstBad historyOf
-undates = says-other undated 1040 refl refl
+undates = says-other undated 10400 refl refl
 
 pub dates-by-moment : DemandTwo momentDated → ⊥
 unfolding said first since inside liberal byAdd byJoin grant latest earliest grantedAt denied verdict tickBefore goodPlace firstBad historyOf
-dates-by-moment = says-other momentDated 1044 refl refl
+dates-by-moment = says-other momentDated 10406 refl refl
 
 pub dates-by-hold : DemandTwo heldDated → ⊥
 unfolding said first since inside liberal byAdd byJoin grant latest earliest grantedAt denied verdict tickBefore goodPlace firstBad historyOf
-dates-by-hold = says-other heldDated 1045 refl refl
+dates-by-hold = says-other heldDated 10407 refl refl
 
 pub dates-early : DemandTwo earlyDated → ⊥
 unfolding said first since inside liberal byAdd byJoin grant latest earliest grantedAt denied verdict tickBefore goodPlace firstBad historyOf
-dates-early = says-other earlyDated 1042 refl refl
+dates-early = says-other earlyDated 10402 refl refl
 
 pub dates-late : DemandTwo lateDated → ⊥
 unfolding said first since inside liberal byAdd byJoin grant latest earliest grantedAt denied verdict tickBefore goodPlace firstBad historyOf latestStrict
-dates-late = says-other lateDated 1048 refl refl
+dates-late = says-other lateDated 10411 refl refl
 
 pub misnames : DemandTwo misnaming → ⊥
 unfolding said first since inside liberal byAdd byJoin grant latest earliest grantedAt denied verdict tickBefore goodPlace firstBad historyOf
-misnames = says-other misnaming 1056 refl refl
+misnames = says-other misnaming 10508 refl refl
