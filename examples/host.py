@@ -20,6 +20,8 @@ VERDICTS = {
     104: "denied: a strict leave of the model ended the grant at tick {}",
     105: "denied: a strict remove of the sheet ended the grant at tick {}",
 }
+# Refusals of a strip, with their place.
+PLACED = 13, 14
 
 
 class Group(ctypes.Structure):
@@ -106,21 +108,29 @@ def receive(gate, group, model, sheets, room):
 
 def strip(number, *events):
     """A carrier's events, each a tick and a kind, as the judge takes them: four bytes a word."""
+    assert number < 512 and all(tick < 2**20 and kind < 8 for tick, kind in events)
     return b"".join(struct.pack("<I", tick * 4096 + kind * 512 + number) for tick, kind in events)
 
 
 def judged(gate, model, sheet, now):
     """The judge's answer in words."""
+    assert 0 <= now < 2**32
     answer = gate.judge(model, len(model), sheet, len(sheet), now)
     code, value = answer >> 32, answer & 0xFFFFFFFF
-    return VERDICTS[code].format(value) if code in VERDICTS else f"refused {code} at {value}"
+    if code in PLACED:
+        return f"refused {code} at {value}"
+    return VERDICTS[code].format(value) if code in VERDICTS else f"refused {code}"
 
 
 def main(arguments):
-    if len(arguments) != 1 or arguments[0] == "--help":
+    if len(arguments) != 1 or "--help" in arguments:
         print(__doc__.strip())
-        return 0 if arguments == ["--help"] else 2
-    gate = load(arguments[0])
+        return 0 if "--help" in arguments else 2
+    try:
+        gate = load(arguments[0])
+    except OSError as why:
+        print(f"host.py: can't load the library: {why}", file=sys.stderr)
+        return 2
 
     group = gate.ferrulebee_fresh(3).group
     for tick in [[(SJ, 7), (SA, 0)], [(LA, 2), (SJ, 9)], [(SL, 7), (SA, 1)]]:

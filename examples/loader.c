@@ -1,9 +1,10 @@
-/* A plot loader: reads a model's strip and a sheet's strip from two files and says in words
- * whether the model is granted the sheet.
+/* A plot loader: says in words whether a model is granted a sheet, since when, or what ended the grant and when.
  *
  *     loader MODEL-STRIP SHEET-STRIP NOW
+ *     loader --book BOOK MODEL SHEET [NOW]
  *
- * Exit status: 0 granted, 1 denied, 2 refused or wrongly called. */
+ * The strips are two files, or are cut out of a group's book up to tick NOW.
+ * Exit status: 0 granted, 1 denied, 2 refused, wrongly called, or something can't be read or written. */
 #include "ferrulebee.h"
 
 #include <inttypes.h>
@@ -11,17 +12,27 @@
 #include <stdlib.h>
 #include <string.h>
 
-/* One byte more than the longest good strip, so that a longer file is refused as too long. */
-enum { ROOM = 4 * FERRULEBEE_EVENTS + 1 };
+/* One byte more than the longest good strip and the longest book, so that a longer file is refused as too long. */
+enum { STRIP_ROOM = 4 * FERRULEBEE_EVENTS + 1, BOOK_ROOM = FERRULEBEE_LONGEST_BOOK + 1 };
 
-static size_t read_strip(const char *name, uint8_t *strip)
+static const char usage[] = "usage: loader MODEL-STRIP SHEET-STRIP NOW, or loader --book BOOK MODEL SHEET [NOW]";
+
+static const char help[] =
+    "loader MODEL-STRIP SHEET-STRIP NOW\n"
+    "loader --book BOOK MODEL SHEET [NOW]\n"
+    "Says whether the model is granted the sheet at tick NOW, and by what; or what ended the grant, and when.\n"
+    "A strip is a file of event words, four bytes each, little-endian: tick * 4096 + kind * 512 + number.\n"
+    "Out of a book the events of MODEL and SHEET up to NOW are taken; without NOW, up to its last closed tick.\n"
+    "Exit status: 0 granted, 1 denied, 2 anything else.\n";
+
+static size_t read_file(const char *name, uint8_t *bytes, size_t room)
 {
     FILE *file = fopen(name, "rb");
     if (file == NULL) {
         fprintf(stderr, "loader: can't open %s\n", name);
         exit(2);
     }
-    size_t length = fread(strip, 1, ROOM, file);
+    size_t length = fread(bytes, 1, room, file);
     if (ferror(file)) {
         fprintf(stderr, "loader: can't read %s\n", name);
         exit(2);
@@ -30,15 +41,15 @@ static size_t read_strip(const char *name, uint8_t *strip)
     return length;
 }
 
-static uint32_t read_tick(const char *text)
+static uint32_t read_number(const char *text, const char *what, unsigned long most)
 {
     char *end;
-    unsigned long tick = strtoul(text, &end, 10);
-    if (*text < '0' || *text > '9' || *end != '\0' || tick > UINT32_MAX) {
-        fprintf(stderr, "loader: '%s' is no tick\n", text);
+    unsigned long number = strtoul(text, &end, 10);
+    if (*text < '0' || *text > '9' || *end != '\0' || number > most) {
+        fprintf(stderr, "loader: '%s' is no %s\n", text, what);
         exit(2);
     }
-    return (uint32_t)tick;
+    return (uint32_t)number;
 }
 
 /* The answer in words, and the exit status that goes with it. */
@@ -81,21 +92,71 @@ static int say(uint64_t answer)
     return 2;
 }
 
-int main(int count, char **words)
+static int judge_strips(char **words)
 {
-    static uint8_t model[ROOM], sheet[ROOM];
-    if (count == 2 && strcmp(words[1], "--help") == 0) {
-        printf("loader MODEL-STRIP SHEET-STRIP NOW\n"
-               "Says whether the model is granted the sheet at tick NOW.\n"
-               "A strip is a file of event words, four bytes each, little-endian:\n"
-               "tick * 4096 + kind * 512 + number.\n");
-        return 0;
+    static uint8_t model[STRIP_ROOM], sheet[STRIP_ROOM];
+    size_t model_bytes = read_file(words[0], model, sizeof model);
+    size_t sheet_bytes = read_file(words[1], sheet, sizeof sheet);
+    return say(judge(model, model_bytes, sheet, sheet_bytes, read_number(words[2], "tick", UINT32_MAX)));
+}
+
+/* The strip of one carrier up to a tick, out of a book's records: those with a kind of its side, which starts
+ * at `side`, and with its number. Its length in bytes. */
+static size_t cut(const uint32_t *records, size_t count, uint32_t side, uint32_t number, uint32_t now, uint8_t *strip)
+{
+    size_t length = 0;
+    for (size_t i = 0; i < count && records[i] / 4096 <= now; i++) {
+        uint32_t word = records[i], kind = word / 512 % 8;
+        if (kind / 4 * 4 == side && word % 512 == number)
+            for (int byte = 0; byte < 4; byte++)
+                strip[length++] = (uint8_t)(word >> (8 * byte));
     }
-    if (count != 4) {
-        fprintf(stderr, "usage: loader MODEL-STRIP SHEET-STRIP NOW (--help says more)\n");
+    return length;
+}
+
+static int judge_book(char **words, int count)
+{
+    static uint8_t book[BOOK_ROOM], model[STRIP_ROOM], sheet[STRIP_ROOM];
+    static uint32_t records[FERRULEBEE_EVENTS];
+    uint32_t m = read_number(words[1], "model (0 to 63)", FERRULEBEE_MODELS - 1);
+    uint32_t s = read_number(words[2], "sheet (0 to 255)", FERRULEBEE_SHEETS - 1);
+    size_t length = read_file(words[0], book, sizeof book);
+    ferrulebee_book_read_answer answer = ferrulebee_book_read(book, length, records, FERRULEBEE_EVENTS);
+    if (answer.code != 0) {
+        printf("refused %" PRIu32, answer.code);
+        if (answer.code >= FERRULEBEE_BAD_RECORD)
+            printf(" at %" PRIu32, answer.place);
+        printf(": the book is not good\n");
         return 2;
     }
-    size_t model_bytes = read_strip(words[1], model);
-    size_t sheet_bytes = read_strip(words[2], sheet);
-    return say(judge(model, model_bytes, sheet, sheet_bytes, read_tick(words[3])));
+    uint32_t closed = answer.group.closed, now = count == 4 ? read_number(words[3], "tick", UINT32_MAX) : closed;
+    if (now > closed) {
+        fprintf(stderr, "loader: the book ends at tick %" PRIu32 ", and nothing is known of tick %" PRIu32 "\n", closed, now);
+        return 2;
+    }
+    size_t kept = (length - FERRULEBEE_BOOK_HEADER) / 4;
+    size_t model_bytes = cut(records, kept, FERRULEBEE_SJ, m, now, model);
+    size_t sheet_bytes = cut(records, kept, FERRULEBEE_SA, s, now, sheet);
+    return say(judge(model, model_bytes, sheet, sheet_bytes, now));
+}
+
+int main(int count, char **words)
+{
+    int status, book = count > 1 && strcmp(words[1], "--book") == 0;
+    if (count == 2 && strcmp(words[1], "--help") == 0) {
+        fputs(help, stdout);
+        status = 0;
+    } else if (book && (count == 5 || count == 6)) {
+        status = judge_book(words + 2, count - 2);
+    } else if (!book && count == 4) {
+        status = judge_strips(words + 1);
+    } else {
+        fprintf(stderr, "%s (--help says more)\n", usage);
+        return 2;
+    }
+    if (fflush(stdout) != 0) {
+        fprintf(stderr, "loader: can't write the answer\n");
+        return 2;
+    }
+    return status;
 }

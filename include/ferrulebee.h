@@ -290,9 +290,9 @@ ferrulebee_delivery ferrulebee_deliver(ferrulebee_group group, uint32_t model,
 /* Is the model granted the sheet at tick `now`? The two strips are the event words of one model and of
  * one sheet in one group, four bytes a word, little-endian, by rising tick. The answer is
  * code * 2^32 + value: 101 or 102 with the tick of the latest moment; 103 with 0; 104 or 105 with the
- * tick of the strict event that ended the grant, which is the earliest after the latest moment; a refusal
- * with its place, 0 where it has none. Refusals, in this order: 10, 11, 12, 13, 14. Places count words
- * from 0. */
+ * tick of the strict event that ended the grant, the earliest after the latest moment, 104 where both fall
+ * in that tick; a refusal with its place, 0 where it has none. Refusals, in this order: 10, 11, 12, 13, 14.
+ * Places count words from 0. Go by the code alone: earlier libraries gave 0 with 104 and 105. */
 uint64_t judge(const uint8_t *model, size_t model_bytes,
                const uint8_t *sheet, size_t sheet_bytes,
                uint32_t now);

@@ -63,17 +63,16 @@ static void histories(void)
 /* What ended the grant, and when. */
 static void ended(void)
 {
-    /* a strict remove alone; the earlier of two strict events, of one carrier and of both */
+    /* a strict remove alone; the earlier of two strict events, of both carriers and of one */
     texts("SJ1", "SA2 SR3", 3, 105, 3);
     texts("SJ1", "SA2 SR3", 9, 105, 3);
     texts("SJ1 SL4", "SA2 SR3", 5, 105, 3);
     texts("SJ1 SL3", "SA2 SR4", 5, 104, 3);
     texts("SJ1 SL3 SJ4 SL5", "SA2", 9, 104, 3);
-    texts("SJ1", "SA2 SR3 SA4 SR5", 9, 105, 5);
     texts("SJ1 LL4", "SA2 SR3 SA5 SR6", 9, 105, 3);
     /* a strict join after the end starts nothing */
     texts("SJ1 SL3 SJ4", "SA2", 9, 104, 3);
-    /* both in one tick: the leave, also where the sheet's is the second of its strip */
+    /* both in one tick: the leave, also after a liberal remove */
     texts("SJ1 SL7", "SA2 LR3 SA4 SR7", 9, 104, 7);
     /* strict events before the first moment, and those that ended an earlier grant, are not it */
     texts("SJ1 SL2 SJ3 SL5 LJ6 SL8", "LA4 SR8 SA9 SR11", 12, 104, 8);
@@ -81,6 +80,7 @@ static void ended(void)
     texts("SJ1 SL2 SJ3", "SA4 SR6", 8, 105, 6);
     texts("SJ1 SL3 LJ4 SL9", "LA2", 9, 104, 9);
     texts("SJ1", "LA1 SR2 LA3 SR5", 5, 105, 5);
+    texts("SJ1", "SA2 SR3 SA4 SR5", 9, 105, 5);
     /* the later of two moments counts: the strict event between them is before it */
     texts("LJ1 SL2 LJ3", "LA1 SR4", 4, 105, 4);
     /* a strict event of one carrier ends what outlived the other's liberal one */
@@ -117,6 +117,12 @@ static void limits(void)
         expect("as many words each", &m, &s, LAST, 101, (length - 1) / 2 * 2 + 1);
         expect("the last of them after now", &m, &s, length - 1, 13, length - 1);
         expect("no model's words", &none, &s, LAST, 103, 0);
+        /* many grants that ended before, and the last: by a remove, and by both in one tick */
+        long_strip(&m, length | 1, FERRULEBEE_LJ, FERRULEBEE_SL, 1);
+        write_strip(&s, "LA1 SR70");
+        expect("a remove after many leaves", &m, &s, 80, 105, 70);
+        m.words[m.count++] = FERRULEBEE_WORD(70, FERRULEBEE_SL, 0);
+        expect("a leave and a remove after many leaves", &m, &s, 80, 104, 70);
     }
     long_strip(&m, FERRULEBEE_EVENTS, FERRULEBEE_SJ, FERRULEBEE_LL, 1);
     long_strip(&s, FERRULEBEE_EVENTS, FERRULEBEE_LA, FERRULEBEE_LR, 1);
@@ -124,6 +130,9 @@ static void limits(void)
     m.words[FERRULEBEE_EVENTS - 1] = FERRULEBEE_WORD(LAST, FERRULEBEE_SL, 0);
     expect("4,096 words each, the last a strict leave", &m, &s, LAST, 104, LAST);
     long_strip(&m, FERRULEBEE_EVENTS, FERRULEBEE_SJ, FERRULEBEE_LL, 1);
+    s.words[FERRULEBEE_EVENTS - 1] = FERRULEBEE_WORD(LAST, FERRULEBEE_SR, 0);
+    expect("4,096 words each, the last a strict remove", &m, &s, LAST, 105, LAST);
+    long_strip(&s, FERRULEBEE_EVENTS, FERRULEBEE_LA, FERRULEBEE_LR, 1);
     expect_short("a model's strip that is not whole words", &m, 1, &s, 0, LAST, 11, 0);
     expect_short("neither strip whole words", &m, 1, &s, 2, LAST, 11, 0);
     expect_short("and now too late", &m, 1, &s, 2, LAST + 1, 10, 0);

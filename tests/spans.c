@@ -224,15 +224,20 @@ static int has(const strip *s, uint32_t kind, uint32_t tick)
 }
 
 /* Is the judge's answer what the spans up to the tick say? Granted in the last of them, which the moment lies
- * in; none where there is none; else the strict event of the tick right after the last, the model's first. */
+ * in and is an add or a liberal join of; none where there is none; else the strict event of the tick right
+ * after the last, the model's first. */
 static int tied(uint64_t said, const strip *m, const strip *s, uint32_t tick, const uint32_t *pairs, uint32_t count)
 {
     uint32_t code = FERRULEBEE_CODE(said), value = FERRULEBEE_VALUE(said);
     if (count == 0)
         return code == FERRULEBEE_NONE && value == 0;
     uint32_t first = pairs[2 * count - 2], last = pairs[2 * count - 1];
+    if (last == tick && (value < first || value > tick))
+        return 0;
+    if (last == tick && (has(s, FERRULEBEE_SA, value) || has(s, FERRULEBEE_LA, value)))
+        return code == FERRULEBEE_BY_ADD;
     if (last == tick)
-        return (code == FERRULEBEE_BY_ADD || code == FERRULEBEE_BY_JOIN) && first <= value && value <= tick;
+        return code == FERRULEBEE_BY_JOIN && has(m, FERRULEBEE_LJ, value);
     if (has(m, FERRULEBEE_SL, last + 1))
         return code == FERRULEBEE_STRICT_LEAVE && value == last + 1;
     return code == FERRULEBEE_STRICT_REMOVE && value == last + 1 && has(s, FERRULEBEE_SR, last + 1);

@@ -6,21 +6,24 @@ use mathlib.Core.Logic.{⊎-elim}
 use mathlib.Core.List.{List, _++_}
 use Prim.Native.Nat.{ℕ, suc, _≤_, _<_}
 use native.Mathlib.Omega.{arith}
-use lib.ListN.{length}
-use Rattle.rules.specs.Ranges.{models, sheets, events}
+use Rattle.rules.specs.Ranges.{models, sheets}
 use Rattle.strip.specs.declared.Side.the-variants.{Model, Sheet}
 use Rattle.judge.specs.Judge.{judgedBy}
+use Rattle.judge.proofs.Promise.{denied-taken}
 use Rattle.span.specs.Answer.{spansIn}
-use Rattle.spanning.specs.Spans.{Span, LiesIn, OverAt, VerdictSays}
+use Rattle.span.proofs.Judge.{judge-says}
+use Rattle.spanning.specs.Spans.{Span, LiesIn}
+use Rattle.spanning.specs.Told.{OverAt, VerdictSays, StrictAt}
 use Rattle.spanning.proofs.Exactly.{spans-are}
-use Rattle.span.proofs.Judge.{StrictAt, last-lies, lies-before, judge-says}
+use Rattle.spanning.proofs.Last.{last-lies, lies-before}
 use Rattle.group.specs.Read.{readAnswer}
 use Rattle.group.specs.declared.Group.{Group}
-use Rattle.group.specs.declared.ReadAnswer.the-variants.{Granted}
+use Rattle.group.specs.declared.ReadAnswer.the-variants.{Granted, Denied}
 use Rattle.demands.specs.Calls.{Call, Run, startFresh, reach}
 use Rattle.demands.specs.Gated.{strip, model, sheet}
 use Rattle.demands.specs.Ours.{ours}
-use Rattle.demands.proofs.Spans.{spans-are-reads, strips-taken}
+use Rattle.demands.proofs.Gates.{fresh-gated}
+use Rattle.demands.proofs.Spans.{spans-are-reads}
 
 module _ (number : ℕ) (calls others : List Call) (m s : ℕ) (h : m < models) (b : s < sheets) where
   abbrev then : Run Group
@@ -38,14 +41,16 @@ module _ (number : ℕ) (calls others : List Call) (m s : ℕ) (h : m < models) 
   abbrev l : List Span
   l = spansIn ofModel ofSheet (last .closed)
 
-  pub ended-reads : length ofModel ≤ events → length ofSheet ≤ events → (e : ℕ) → StrictAt (judgedBy ofModel ofSheet (last .closed)) e
-      → (suc (then .closed) ≡ e → readAnswer (then .group) m s ≡ Granted) × (e ≤ then .closed → readAnswer (then .group) m s ≡ Granted → ⊥)
-  ended-reads short-m short-s e strict =
+  pub ended-reads : (e : ℕ) → StrictAt (judgedBy ofModel ofSheet (last .closed)) e
+      → (suc (then .closed) ≡ e → readAnswer (then .group) m s ≡ Granted) × (e ≤ then .closed → readAnswer (then .group) m s ≡ Denied)
+  ended-reads e strict =
       let now = last .closed in
       let x = spans-are (model last m) (sheet last s) now in
-      let says = judge-says ofModel ofSheet now (strips-taken number (calls ++ others) m s h b short-m short-s) l x in
-      let over : OverAt l e = ⊎-elim (λ q. subst (VerdictSays l now) q says) (λ q. subst (VerdictSays l now) q says) strict in
-      let reads = spans-are-reads number calls m s h b others l x in (
+      let a = ⊎-elim (denied-taken ofModel ofSheet now _) (denied-taken ofModel ofSheet now _) strict in
+      let says = judge-says ofModel ofSheet now a l x in
+      let over : OverAt l now e = ⊎-elim (λ q. subst (VerdictSays l now) q says) (λ q. subst (VerdictSays l now) q says) strict in
+      let reads = spans-are-reads number calls m s h b others l x in
+      let gated = fresh-gated number calls in (
         λ q. reads .1 (subst (λ (t : ℕ). LiesIn t l) (omega (arith, q, over .ends)) (last-lies now 0 l (over .span) (x .apart) (over .last))),
-        λ q g. absurd (omega (arith, q, over .ends, lies-before now 0 l (over .span) (then .closed) (x .apart) (over .last) (reads .0 g))),
+        λ q. gated .denied m s h b .1 (λ g. absurd (omega (arith, q, over .ends, lies-before now 0 l (over .span) (then .closed) (x .apart) (over .last) (reads .0 (gated .read m s h b .1 g))))),
       )

@@ -10,16 +10,14 @@ use lib.ListN.{length}
 use borrow.Author.Tests.{leb-true, le-ltb, not-false}
 use Rattle.base.specs.First.{first}
 use Rattle.base.proofs.Truth.{both, either}
-use Rattle.rules.specs.Kinds.{SL}
 use Rattle.rules.specs.Ranges.{ticks, events}
 use Rattle.rules.specs.Refusals.{lateNow, longModel, longSheet, badModel, badSheet}
 use Rattle.formula.specs.Formula.{History}
-use Rattle.formula.specs.Ticks.{byAdd, grant}
-use Rattle.formula.specs.Verdict.{latest, earliest, grantedAt, denied, verdict}
+use Rattle.formula.specs.Judged.{Judged, by-add, by-join, none as no-moment, strict-leave, strict-remove}
+use Rattle.formula.specs.Verdict.{verdict}
+use Rattle.formula.proofs.Judged.{judged}
 use Rattle.formula.specs.declared.Verdict.{Verdict}
 use Rattle.formula.specs.declared.Verdict.the-variants.{Granted, Denied, Refused}
-use Rattle.formula.specs.declared.Moment.the-variants.{Add, Join}
-use Rattle.formula.specs.declared.Cause.the-variants.{None, StrictLeave, StrictRemove}
 use Rattle.strip.specs.declared.Side.{Side}
 use Rattle.strip.specs.declared.Side.the-variants.{Model, Sheet}
 use Rattle.strip.specs.Good.{goodPlace, firstBad}
@@ -33,20 +31,16 @@ use Rattle.demands.specs.Lines.{Refusal, at, plain, none, Line, line, fi
 use Rattle.demands.specs.Refusals.{stripLines, judgeLines, bytesLines, refusedVerdict}
 use Rattle.demands.proofs.Lines.{any, first-each, first-each-last}
 
--- a verdict of two histories is no refusal
+-- a verdict of two histories is no refusal: no line of Judged is one
 answered : (model sheet : History) (now : ℕ) → refusedVerdict (verdict model sheet now) ≡ none
-unfolding verdict grantedAt denied
-answered model sheet now =
-    go (grant model sheet now) (byAdd model sheet (latest model sheet now)) (eqb (latest model sheet now) 0)
-    (eqb (model (earliest model sheet (latest model sheet now) now)) SL) (latest model sheet now) (earliest model sheet (latest model sheet now) now)
+answered model sheet now = go (judged model sheet now)
   where
-    go : (g b n l : Bool) (t e : ℕ)
-        → refusedVerdict (cond g (cond b (Granted (Add t)) (Granted (Join t))) (cond n (Denied None) (cond l (Denied (StrictLeave e)) (Denied (StrictRemove e))))) ≡ none
-    go true true n l t e = refl
-    go true false n l t e = refl
-    go false b true l t e = refl
-    go false b false true t e = refl
-    go false b false false t e = refl
+    go : {v : Verdict} → Judged model sheet now v → refusedVerdict v ≡ none
+    go (by-add t g l a) = refl
+    go (by-join t g l a) = refl
+    go (no-moment h) = refl
+    go (strict-leave t e g l r a) = refl
+    go (strict-remove t e g l r a) = refl
 
 -- ---- the strips
 

@@ -123,18 +123,6 @@ module _ (number : ℕ) (calls : List Call) (m s : ℕ) (h : m < models) (b : s 
   abbrev ofSheet : List ℕ
   ofSheet = strip stood Sheet s
 
-  -- which the judge and the spans take, where they are not too long
-  pub strips-taken : length ofModel ≤ events → length ofSheet ≤ events → StripsAccepted ofModel ofSheet (stood .closed)
-  strips-taken short-m short-s =
-      let good = fresh-gated number calls .good in
-      record {
-        tick = subst (λ (r : Run Group). r .closed ≤ ticks) (sym (fresh-reach number calls)) (gate.now-bounded number (moving calls));
-        short-m = short-m;
-        short-s = short-s;
-        good-m = good Model m h;
-        good-s = good Sheet s b;
-      }
-
   -- that list is what the call writes, where the strips are not too long and the list has as many numbers as they have events
   pub spans-written : length ofModel ≤ events → length ofSheet ≤ events → (list : List ℕ) → length ofModel + length ofSheet ≤ length list
       → (l : List Span) × Spans (model stood m) (sheet stood s) (stood .closed) l
@@ -142,7 +130,14 @@ module _ (number : ℕ) (calls : List Call) (m s : ℕ) (h : m < models) (b : s 
       × (listAfter ofModel ofSheet (stood .closed) list ≡ put list 0 (flat l))
   spans-written short-m short-s list room =
       let now = stood .closed in
-      let a = strips-taken short-m short-s in
+      let good = fresh-gated number calls .good in
+      let a : StripsAccepted ofModel ofSheet now = record {
+        tick = subst (λ (r : Run Group). r .closed ≤ ticks) (sym (fresh-reach number calls)) (gate.now-bounded number (moving calls));
+        short-m = short-m;
+        short-s = short-s;
+        good-m = good Model m h;
+        good-s = good Sheet s b;
+      } in
       let fits = spans-few ofModel ofSheet now in (
         spansIn ofModel ofSheet now,
         spans-are _ _ now,

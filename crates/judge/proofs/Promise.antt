@@ -1,21 +1,26 @@
 -- What the judge's promise says in the formula's words. Assumes nothing.
 use mathlib.Core.Path.{_≡_, refl, sym, _∙_}
-use mathlib.Core.Bool.{true≢false}
-use mathlib.Core.Logic.{_↔_}
+use mathlib.Core.Bool.{true, false, true≢false}
+use mathlib.Core.Logic.{⊎-elim, _↔_}
 use mathlib.Core.List.{List}
 use Prim.Native.Nat.{ℕ}
+use lib.Dec.{eqb}
+use borrow.Author.Tests.{eqb-true, eqb-false}
+use Rattle.base.proofs.Truth.{either}
 use Rattle.formula.specs.Formula.{Grant}
 use Rattle.formula.specs.Verdict.{verdict}
 use Rattle.formula.specs.Judged.{Judged, by-add, by-join, none, strict-leave, strict-remove}
 use Rattle.formula.specs.declared.Verdict.{Verdict}
-use Rattle.formula.specs.declared.Verdict.the-variants.{Granted, Refused}
+use Rattle.formula.specs.declared.Cause.{Cause}
+use Rattle.formula.specs.declared.Verdict.the-variants.{Granted, Denied, Refused}
 use Rattle.formula.specs.declared.Moment.{Moment}
 use Rattle.formula.specs.declared.Moment.the-variants.{Add, Join}
 use Rattle.formula.proofs.Held.{grant-moment}
 use Rattle.formula.proofs.Judged.{judged}
 use Rattle.strip.specs.History.{historyOf}
-use Rattle.judge.specs.Judge.{StripsAccepted, judgedBy}
-use Rattle.judge.proofs.Checked.{checks}
+use Rattle.judge.specs.Checked.{refused, accepted}
+use Rattle.judge.specs.Judge.{StripsAccepted, checked, judgedBy}
+use Rattle.judge.proofs.Checked.{checks, check-accepts, check-refuses}
 
 module _ (m s : List ℕ) (now : ℕ) (a : StripsAccepted m s now) where
   judges : judgedBy m s now ≡ verdict (historyOf m) (historyOf s) now
@@ -41,6 +46,15 @@ module _ (m s : List ℕ) (now : ℕ) (a : StripsAccepted m s now) where
 
   pub judge-grants : Grants (judgedBy m s now) ↔ Grant (historyOf m) (historyOf s) now
   judge-grants = only (judgedBy m s now) judge-means
+
+-- strips that the judge denies are accepted
+pub denied-taken : (m s : List ℕ) (now : ℕ) (c : Cause) → judgedBy m s now ≡ Denied c → StripsAccepted m s now
+denied-taken m s now c d = ⊎-elim
+    (λ (y : eqb (checked m s now refused accepted .code) 0 ≡ true). check-accepts m s now (eqb-true _ 0 y))
+    (λ (n : eqb (checked m s now refused accepted .code) 0 ≡ false).
+    let r = check-refuses m s now Refused (verdict (historyOf m) (historyOf s) now) (eqb-false _ 0 n) in
+    absurd (true≢false (cc (sym r ∙ d))))
+    (either (eqb (checked m s now refused accepted .code) 0))
 
 -- two verdicts that meet the judge's promise are one
 pub one-verdict : (m s : List ℕ) (now : ℕ) (v w : Verdict) → v ≡ judgedBy m s now → w ≡ judgedBy m s now → v ≡ w

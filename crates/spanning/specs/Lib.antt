@@ -1,3 +1,4 @@
 pub mod Spans
 pub mod SpansOf
 pub mod Steps
+pub mod Told

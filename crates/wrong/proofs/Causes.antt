@@ -1,29 +1,34 @@
--- One history on which every judge that tells a strict cause wrongly gives itself away: demand 2 lets none of them through. Assumes nothing.
+-- One history on which judges that tell a strict cause wrongly give themselves away: demand 2 lets none of them through, and demand 1 none that does so from
+-- C alone. Assumes nothing.
 use mathlib.Core.Path.{_≡_, refl, sym, ap, _∙_}
 use mathlib.Core.Bool.{false}
 use mathlib.Core.List.{List, [], _∷_}
-use Prim.Native.Nat.{ℕ, _+_, _*_}
+use Prim.Native.Nat.{ℕ, _+_, _*_, _^_}
 use native.Mathlib.Omega.{arith}
 use lib.Dec.{eqb}
 use borrow.Author.Tests.{eqb-false}
 use Rattle.base.specs.First.{first}
 use Rattle.rules.specs.Kinds.{SJ, LJ, SL, SA, LA, SR}
 use Rattle.event.specs.Word.{wordOf}
-use Rattle.formula.specs.Answer.{verdictNumber, verdictValue}
 use Rattle.formula.specs.Since.{since}
 use Rattle.formula.specs.Ticks.{inside, liberal, byAdd, byJoin, grant}
 use Rattle.formula.specs.Verdict.{latest, earliest, grantedAt, denied, verdict}
-use Rattle.formula.specs.declared.Verdict.{Verdict}
 use Rattle.formula.proofs.Judged.{judged-is}
 use Rattle.strip.specs.Good.{tickBefore, goodPlace, firstBad}
 use Rattle.strip.specs.History.{historyOf}
 use Rattle.strip.specs.declared.Side.the-variants.{Model, Sheet}
 use Rattle.strip.proofs.Bad.{all-good}
 use Rattle.judge.specs.Judge.{StripsAccepted}
+use Rattle.loader.specs.Judge.{packed}
+use Rattle.wire.specs.Word.{le32, bytes32}
+use Rattle.wire.specs.Words.{words, bytes}
 use Rattle.group.specs.declared.Group.{Group}
 use Rattle.demands.specs.Gate.{Gate}
+use Rattle.demands.specs.One.{DemandOne}
 use Rattle.demands.specs.Two.{DemandTwo}
-use Rattle.wrong.specs.Gates.{undated, momentDated, heldDated, earlyDated, latestStrict, lateDated, misnaming}
+use Rattle.demands.specs.Ours.{ours}
+use Rattle.demands.proofs.One.{demand-one}
+use Rattle.wrong.specs.Gates.{undated, undatedInC, momentDated, heldDated, earlyDated, latestStrict, lateDated, misnaming}
 
 -- the rules' example (RULES.md 6.1): a strict leave before any moment, at 2; a grant from 4 that ended at 5, and one from 6 that leave and remove ended
 -- together at 8; another strict remove at 11
@@ -46,39 +51,44 @@ accepted = record {
   good-s = all-good Sheet now sheet (omega arith);
 }
 
--- number and value in one
-said : Verdict → ℕ
-said v = 100 * verdictNumber v + verdictValue v
-
 -- the strict leave of tick 8, and nothing else
-ended-by-leave : (G : Gate Group) → DemandTwo G → said (G .judge model sheet now) ≡ 10408
-unfolding said first since inside liberal byAdd byJoin grant latest earliest grantedAt denied verdict historyOf
-ended-by-leave G d = ap said (judged-is (historyOf model) (historyOf sheet) now (d .judge model sheet now accepted .1))
+ended-by-leave : (G : Gate Group) → DemandTwo G → packed (G .judge model sheet now) ≡ (104 * 2 ^ 32 + 8)
+unfolding first since inside liberal byAdd byJoin grant latest earliest grantedAt denied verdict historyOf
+ended-by-leave G d = ap packed (judged-is (historyOf model) (historyOf sheet) now (d .judge model sheet now accepted .1))
 
-says-other : (G : Gate Group) (n : ℕ) → said (G .judge model sheet now) ≡ n → eqb n 10408 ≡ false → DemandTwo G → ⊥
-says-other G n e f d = eqb-false n 10408 f (sym e ∙ ended-by-leave G d)
+says-other : (G : Gate Group) (n : ℕ) → packed (G .judge model sheet now) ≡ n → eqb n (104 * 2 ^ 32 + 8) ≡ false → DemandTwo G → ⊥
+says-other G n e f d = eqb-false n (104 * 2 ^ 32 + 8) f (sym e ∙ ended-by-leave G d)
 
 -- what each wrong judge says instead
 pub undates : DemandTwo undated → ⊥
-unfolding said first since inside liberal byAdd byJoin grant latest earliest grantedAt denied verdict tickBefore goodPlace firstBad historyOf
-undates = says-other undated 10400 refl refl
+unfolding first since inside liberal byAdd byJoin grant latest earliest grantedAt denied verdict tickBefore goodPlace firstBad historyOf
+undates = says-other undated (104 * 2 ^ 32 + 0) refl refl
 
 pub dates-by-moment : DemandTwo momentDated → ⊥
-unfolding said first since inside liberal byAdd byJoin grant latest earliest grantedAt denied verdict tickBefore goodPlace firstBad historyOf
-dates-by-moment = says-other momentDated 10406 refl refl
+unfolding first since inside liberal byAdd byJoin grant latest earliest grantedAt denied verdict tickBefore goodPlace firstBad historyOf
+dates-by-moment = says-other momentDated (104 * 2 ^ 32 + 6) refl refl
 
 pub dates-by-hold : DemandTwo heldDated → ⊥
-unfolding said first since inside liberal byAdd byJoin grant latest earliest grantedAt denied verdict tickBefore goodPlace firstBad historyOf
-dates-by-hold = says-other heldDated 10407 refl refl
+unfolding first since inside liberal byAdd byJoin grant latest earliest grantedAt denied verdict tickBefore goodPlace firstBad historyOf
+dates-by-hold = says-other heldDated (104 * 2 ^ 32 + 7) refl refl
 
 pub dates-early : DemandTwo earlyDated → ⊥
-unfolding said first since inside liberal byAdd byJoin grant latest earliest grantedAt denied verdict tickBefore goodPlace firstBad historyOf
-dates-early = says-other earlyDated 10402 refl refl
+unfolding first since inside liberal byAdd byJoin grant latest earliest grantedAt denied verdict tickBefore goodPlace firstBad historyOf
+dates-early = says-other earlyDated (104 * 2 ^ 32 + 2) refl refl
 
 pub dates-late : DemandTwo lateDated → ⊥
-unfolding said first since inside liberal byAdd byJoin grant latest earliest grantedAt denied verdict tickBefore goodPlace firstBad historyOf latestStrict
-dates-late = says-other lateDated 10411 refl refl
+unfolding first since inside liberal byAdd byJoin grant latest earliest grantedAt denied verdict tickBefore goodPlace firstBad historyOf latestStrict
+dates-late = says-other lateDated (104 * 2 ^ 32 + 11) refl refl
 
 pub misnames : DemandTwo misnaming → ⊥
-unfolding said first since inside liberal byAdd byJoin grant latest earliest grantedAt denied verdict tickBefore goodPlace firstBad historyOf
-misnames = says-other misnaming 10508 refl refl
+unfolding first since inside liberal byAdd byJoin grant latest earliest grantedAt denied verdict tickBefore goodPlace firstBad historyOf
+misnames = says-other misnaming (105 * 2 ^ 32 + 8) refl refl
+
+-- from C: demand 1 gives the number by the judge's verdict, which is ours
+undates-for : (n k : ℕ) → undatedInC .judgeBytes (bytes model) (bytes sheet) now ≡ n → ours .judgeBytes (bytes model) (bytes sheet) now ≡ k → eqb n k ≡ false
+    → DemandOne undatedInC → ⊥
+undates-for n k e f differ d = eqb-false n k differ (sym e ∙ d .judge-bytes (bytes model) (bytes sheet) now ∙ sym (demand-one .judge-bytes (bytes model) (bytes sheet) now) ∙ f)
+
+pub undates-in-c : DemandOne undatedInC → ⊥
+unfolding bytes bytes32 words le32 first since inside liberal byAdd byJoin grant latest earliest grantedAt denied verdict tickBefore goodPlace firstBad historyOf
+undates-in-c = undates-for (104 * 2 ^ 32 + 0) (104 * 2 ^ 32 + 8) refl refl refl

@@ -26,7 +26,7 @@ use Rattle.wrong.proofs.Story.{Turn, callsOf, tellAll, allFit, begins, 
 module _ (reads : Group → ℕ → ℕ → ReadAnswer) (masks : List Group → ℕ → ℕ → MaskAnswer) (delivers : Group → ℕ → List ℕ → List ℕ → Delivery)
     (delivered : Group → ℕ → List ℕ → List ℕ → List ℕ) (judges : List ℕ → List ℕ → ℕ → Verdict) where
   abbrev pub moves : Gate Group
-  moves = replacing (ours .fresh) (ours .request) (ours .close) reads masks delivers delivered judges
+  moves = replacing (ours .fresh) (ours .request) (ours .close) reads masks delivers delivered judges (ours .judgeBytes)
 
   pub same-reach : (calls : List Call) (r : Run Group) → reach moves r calls ≡ reach ours r calls
   unfolding reach next

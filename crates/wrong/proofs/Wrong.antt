@@ -49,8 +49,8 @@ use Rattle.demands.specs.Ours.{ours}
 use Rattle.demands.specs.Refusals.{refusedDelivery}
 use Rattle.demands.proofs.One.{demand-one}
 use Rattle.demands.proofs.Two.{demand-two}
-use Rattle.wrong.specs.Gates.{taken, unsaid, padded, hidden, refusesAll, deniesAll, undated, momentDated, heldDated, earlyDated, lateDated, misnaming, idle, counting, frozen, late, nameless, leak, unsaying, telling, overhanging, storing, undelivering, inventing, padding}
-use Rattle.wrong.proofs.Causes.{undates, dates-by-moment, dates-by-hold, dates-early, dates-late, misnames}
+use Rattle.wrong.specs.Gates.{taken, unsaid, padded, hidden, refusesAll, deniesAll, undated, undatedInC, momentDated, heldDated, earlyDated, lateDated, misnaming, idle, counting, frozen, late, nameless, leak, unsaying, telling, overhanging, storing, undelivering, inventing, padding}
+use Rattle.wrong.proofs.Causes.{undates, undates-in-c, dates-by-moment, dates-by-hold, dates-early, dates-late, misnames}
 use Rattle.wrong.proofs.Story.{Turn, ask, tick, begins, tellAll, allFit, callsOf, tests, well-formed, does-grant, grants-not}
 use Rattle.wrong.proofs.In.{same-reach, in-after}
 use Rattle.wrong.proofs.Fresh.{nobody, store, fresh-delivers, fresh-buffer}
@@ -355,6 +355,7 @@ pub record ShutOut : Type 0 where
   pub invents : DemandTwo inventing → ⊥
   pub pads : DemandTwo padding → ⊥
   -- demand 1
+  pub undates-in-c : DemandOne undatedInC → ⊥
   pub marks-refused : DemandOne storing → ⊥
   pub delivers-nothing : DemandOne undelivering → ⊥
   -- demand 3
@@ -384,6 +385,7 @@ wrong-gates-shut-out = record {
   overhangs = overhangs;
   invents = invents;
   pads = pads;
+  undates-in-c = undates-in-c;
   marks-refused = marks-refused;
   delivers-nothing = delivers-nothing;
   tells = tells;

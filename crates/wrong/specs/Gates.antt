@@ -17,6 +17,7 @@ use Rattle.formula.specs.declared.Cause.the-variants.{None, StrictLeave, Strict
 use Rattle.formula.specs.declared.Verdict.{Verdict}
 use Rattle.formula.specs.declared.Verdict.the-variants as verdict
 use Rattle.strip.specs.History.{historyOf}
+use Rattle.loader.specs.Judge.{packed, judgedFrom}
 use Rattle.group.specs.Fresh.{freshAnswer, freshGroup}
 use Rattle.group.specs.Marks.{modelIn, sheetIn}
 use Rattle.group.specs.Request.{markedGroup}
@@ -31,8 +32,8 @@ use Rattle.demands.specs.Ours.{ours}
 
 -- our gate with some of its calls replaced
 abbrev pub replacing : (ℕ → Left Group) → (Group → ℕ → ℕ → Left Group) → (Group → Left Group) → (Group → ℕ → ℕ → ReadAnswer) → (List Group → ℕ → ℕ → MaskAnswer)
-    → (Group → ℕ → List ℕ → List ℕ → Delivery) → (Group → ℕ → List ℕ → List ℕ → List ℕ) → (List ℕ → List ℕ → ℕ → Verdict) → Gate Group
-replacing fresh request close read mask deliver delivered judge = record {
+    → (Group → ℕ → List ℕ → List ℕ → Delivery) → (Group → ℕ → List ℕ → List ℕ → List ℕ) → (List ℕ → List ℕ → ℕ → Verdict) → (List ℕ → List ℕ → ℕ → ℕ) → Gate Group
+replacing fresh request close read mask deliver delivered judge judgeBytes = record {
   number = ours .number;
   closed = ours .closed;
   fresh = fresh;
@@ -45,7 +46,7 @@ replacing fresh request close read mask deliver delivered judge = record {
   delivered = delivered;
   judge = judge;
   evidence = ours .evidence;
-  judgeBytes = ours .judgeBytes;
+  judgeBytes = judgeBytes;
   spans = ours .spans;
   spansLeft = ours .spansLeft;
   readBook = ours .readBook;
@@ -88,15 +89,15 @@ refusesAll = record {
 
 -- a close that does nothing
 abbrev pub idle : Gate Group
-idle = replacing (ours .fresh) (ours .request) taken (ours .read) (ours .mask) (ours .deliver) (ours .delivered) (ours .judge)
+idle = replacing (ours .fresh) (ours .request) taken (ours .read) (ours .mask) (ours .deliver) (ours .delivered) (ours .judge) (ours .judgeBytes)
 
 -- a close that counts the tick, and does nothing else
 abbrev pub counting : Gate Group
-counting = replacing (ours .fresh) (ours .request) (λ g. taken (counted g (g .closed + 1))) (ours .read) (ours .mask) (ours .deliver) (ours .delivered) (ours .judge)
+counting = replacing (ours .fresh) (ours .request) (λ g. taken (counted g (g .closed + 1))) (ours .read) (ours .mask) (ours .deliver) (ours .delivered) (ours .judge) (ours .judgeBytes)
 
 -- right in the first tick; later ticks are oneMore, and nothing else happens
 abbrev pub frozen : Gate Group
-frozen = replacing (ours .fresh) (ours .request) (λ g. cond (eqb (g .closed) 0) (ours .close g) (taken (counted g (g .closed + 1)))) (ours .read) (ours .mask) (ours .deliver) (ours .delivered) (ours .judge)
+frozen = replacing (ours .fresh) (ours .request) (λ g. cond (eqb (g .closed) 0) (ours .close g) (taken (counted g (g .closed + 1)))) (ours .read) (ours .mask) (ours .deliver) (ours .delivered) (ours .judge) (ours .judgeBytes)
 
 -- keeps the group as it was before the last close, and shows that one: late by one tick
 pub record Late : Type 0 where
@@ -131,40 +132,45 @@ late = record {
 
 -- every fresh group is group 0
 abbrev pub nameless : Gate Group
-nameless = replacing (λ number. ours .fresh 0) (ours .request) (ours .close) (ours .read) (ours .mask) (ours .deliver) (ours .delivered) (ours .judge)
+nameless = replacing (λ number. ours .fresh 0) (ours .request) (ours .close) (ours .read) (ours .mask) (ours .deliver) (ours .delivered) (ours .judge) (ours .judgeBytes)
 
 -- ---- the judge
 
-abbrev pub judging : (List ℕ → List ℕ → ℕ → Verdict) → Gate Group
+-- our gate with another judge, and with another judge from C
+abbrev pub judging : (List ℕ → List ℕ → ℕ → Verdict) → (List ℕ → List ℕ → ℕ → ℕ) → Gate Group
 judging = replacing (ours .fresh) (ours .request) (ours .close) (ours .read) (ours .mask) (ours .deliver) (ours .delivered)
 
 -- always denies
 abbrev pub deniesAll : Gate Group
-deniesAll = judging (λ m s now. verdict.Denied None)
+deniesAll = judging (λ m s now. verdict.Denied None) (ours .judgeBytes)
 
 -- a strict cause told with another tick
-abbrev pub at : ℕ → Verdict → Verdict
-at t (verdict.Granted moment) = verdict.Granted moment
-at t (verdict.Denied None) = verdict.Denied None
-at t (verdict.Denied (StrictLeave e)) = verdict.Denied (StrictLeave t)
-at t (verdict.Denied (StrictRemove e)) = verdict.Denied (StrictRemove t)
-at t (verdict.Refused number place) = verdict.Refused number place
+abbrev pub dated : ℕ → Verdict → Verdict
+dated t (verdict.Granted moment) = verdict.Granted moment
+dated t (verdict.Denied None) = verdict.Denied None
+dated t (verdict.Denied (StrictLeave e)) = verdict.Denied (StrictLeave t)
+dated t (verdict.Denied (StrictRemove e)) = verdict.Denied (StrictRemove t)
+dated t (verdict.Refused number place) = verdict.Refused number place
 
 -- with tick 0
 abbrev pub undated : Gate Group
-undated = judging (λ m s now. at 0 (ours .judge m s now))
+undated = judging (λ m s now. dated 0 (ours .judge m s now)) (ours .judgeBytes)
+
+-- with tick 0 only from C
+abbrev pub undatedInC : Gate Group
+undatedInC = judging (ours .judge) (λ m s now. packed (dated 0 (judgedFrom m s now)))
 
 -- with the latest moment's tick
 abbrev pub momentDated : Gate Group
-momentDated = judging (λ m s now. at (latest (historyOf m) (historyOf s) now) (ours .judge m s now))
+momentDated = judging (λ m s now. dated (latest (historyOf m) (historyOf s) now) (ours .judge m s now)) (ours .judgeBytes)
 
 -- with the last tick in which the grant held
 abbrev pub heldDated : Gate Group
-heldDated = judging (λ m s now. at (verdictValue (ours .judge m s now) - 1) (ours .judge m s now))
+heldDated = judging (λ m s now. dated (verdictValue (ours .judge m s now) - 1) (ours .judge m s now)) (ours .judgeBytes)
 
 -- with the tick of the earliest strict event of the whole history
 abbrev pub earlyDated : Gate Group
-earlyDated = judging (λ m s now. at (earliest (historyOf m) (historyOf s) 0 now) (ours .judge m s now))
+earlyDated = judging (λ m s now. dated (earliest (historyOf m) (historyOf s) 0 now) (ours .judge m s now)) (ours .judgeBytes)
 
 -- with the tick of the latest strict event
 unfoldable pub latestStrict : History → History → ℕ → ℕ
@@ -172,7 +178,7 @@ latestStrict model sheet zero = 0
 latestStrict model sheet (suc t) = cond (strict model sheet (suc t)) (suc t) (latestStrict model sheet t)
 
 abbrev pub lateDated : Gate Group
-lateDated = judging (λ m s now. at (latestStrict (historyOf m) (historyOf s) now) (ours .judge m s now))
+lateDated = judging (λ m s now. dated (latestStrict (historyOf m) (historyOf s) now) (ours .judge m s now)) (ours .judgeBytes)
 
 -- names the remove where a strict leave and a strict remove fall in one tick
 abbrev pub renamed : History → Verdict → Verdict
@@ -183,13 +189,13 @@ renamed sheet (verdict.Denied (StrictRemove e)) = verdict.Denied (StrictRemove e
 renamed sheet (verdict.Refused number place) = verdict.Refused number place
 
 abbrev pub misnaming : Gate Group
-misnaming = judging (λ m s now. renamed (historyOf s) (ours .judge m s now))
+misnaming = judging (λ m s now. renamed (historyOf s) (ours .judge m s now)) (ours .judgeBytes)
 
 -- ---- reads
 
 -- our leak: whoever is in today is granted what is in today
 abbrev pub leak : Gate Group
-leak = replacing (ours .fresh) (ours .request) (ours .close) (λ g m s. cond (modelIn g m && sheetIn g s) Granted Denied) (ours .mask) (ours .deliver) (ours .delivered) (ours .judge)
+leak = replacing (ours .fresh) (ours .request) (ours .close) (λ g m s. cond (modelIn g m && sheetIn g s) Granted Denied) (ours .mask) (ours .deliver) (ours .delivered) (ours .judge) (ours .judgeBytes)
 
 -- denies by a refusal with number 0
 abbrev pub unsaid : ReadAnswer → ReadAnswer
@@ -198,35 +204,35 @@ unsaid Denied = Refused 0
 unsaid (Refused n) = Refused n
 
 abbrev pub unsaying : Gate Group
-unsaying = replacing (ours .fresh) (ours .request) (ours .close) (λ g m s. unsaid (ours .read g m s)) (ours .mask) (ours .deliver) (ours .delivered) (ours .judge)
+unsaying = replacing (ours .fresh) (ours .request) (ours .close) (λ g m s. unsaid (ours .read g m s)) (ours .mask) (ours .deliver) (ours .delivered) (ours .judge) (ours .judgeBytes)
 
 -- answers a sheet out of range by one number more where model 5 is in
 abbrev pub telling : Gate Group
 telling = replacing (ours .fresh) (ours .request) (ours .close)
     (λ g m s. cond (leb sheets s) (Refused (cond (modelIn g 5) (badNumber + 1) badNumber)) (ours .read g m s))
-    (ours .mask) (ours .deliver) (ours .delivered) (ours .judge)
+    (ours .mask) (ours .deliver) (ours .delivered) (ours .judge) (ours .judgeBytes)
 
 -- a mask with a bit past the list's end
 abbrev pub overhanging : Gate Group
-overhanging = replacing (ours .fresh) (ours .request) (ours .close) (ours .read) (λ gs m s. record { code = 0; mask = 2 ^ length gs }) (ours .deliver) (ours .delivered) (ours .judge)
+overhanging = replacing (ours .fresh) (ours .request) (ours .close) (ours .read) (λ gs m s. record { code = 0; mask = 2 ^ length gs }) (ours .deliver) (ours .delivered) (ours .judge) (ours .judgeBytes)
 
 -- ---- refusals
 
 -- a refused request is marked all the same
 abbrev pub storing : Gate Group
 storing = replacing (ours .fresh) (λ g kind n. record { code = ours .request g kind n .code; place = 0; group = markedGroup g kind n }) (ours .close) (ours .read) (ours .mask)
-    (ours .deliver) (ours .delivered) (ours .judge)
+    (ours .deliver) (ours .delivered) (ours .judge) (ours .judgeBytes)
 
 -- ---- deliveries
 
 -- refuses every delivery, by number 0
 abbrev pub undelivering : Gate Group
-undelivering = replacing (ours .fresh) (ours .request) (ours .close) (ours .read) (ours .mask) (λ g m store out. delivery.Refused 0 0) (λ g m store out. out) (ours .judge)
+undelivering = replacing (ours .fresh) (ours .request) (ours .close) (ours .read) (ours .mask) (λ g m store out. delivery.Refused 0 0) (λ g m store out. out) (ours .judge) (ours .judgeBytes)
 
 -- says one sheet more than there is
 abbrev pub inventing : Gate Group
 inventing = replacing (ours .fresh) (ours .request) (ours .close) (ours .read) (ours .mask) (ours .deliver)
-    (λ g m store out. bytes32 (le32 (ours .delivered g m store out) 0 + 1) ++ drop 4 (ours .delivered g m store out)) (ours .judge)
+    (λ g m store out. bytes32 (le32 (ours .delivered g m store out) 0 + 1) ++ drop 4 (ours .delivered g m store out)) (ours .judge) (ours .judgeBytes)
 
 -- hides four bytes behind the last part, and counts them in the total
 abbrev pub padded : Delivery → Delivery
@@ -240,4 +246,4 @@ hidden (delivery.Refused number place) made out = out
 abbrev pub padding : Gate Group
 padding = replacing (ours .fresh) (ours .request) (ours .close) (ours .read) (ours .mask)
     (λ g m store out. padded (ours .deliver g m store (drop 4 out)))
-    (λ g m store out. hidden (ours .deliver g m store (drop 4 out)) (ours .delivered g m store (drop 4 out)) out) (ours .judge)
+    (λ g m store out. hidden (ours .deliver g m store (drop 4 out)) (ours .delivered g m store (drop 4 out)) out) (ours .judge) (ours .judgeBytes)
