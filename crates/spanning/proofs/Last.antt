@@ -12,6 +12,7 @@ use Rattle.spanning.specs.Spans.{Span, Apart, LiesIn}
 use Rattle.spanning.specs.Told.{LastIs}
 
 module _ (now : ℕ) where
+  -- where the last pair begins, and that it is one
   pub last-after : (b : ℕ) (l : List Span) (q : Span) → Apart b now l → LastIs l q → b < q .first
   unfolding Apart LastIs
   last-after b [] q a x = absurd x
@@ -24,7 +25,7 @@ module _ (now : ℕ) where
   first-last b (p ∷ []) q a x = rw (← x) (a .1)
   first-last b (p ∷ (r ∷ l)) q a x = first-last (suc (p .last)) (r ∷ l) q (a .3) x
 
-  -- its last tick lies in it, no later tick lies in a pair, nor does the tick before its first
+  -- the last pair's last tick lies in it, no later tick lies in a pair, nor does the tick before its first
   pub last-lies : (b : ℕ) (l : List Span) (q : Span) → Apart b now l → LastIs l q → LiesIn (q .last) l
   unfolding Apart LastIs LiesIn
   last-lies b [] q a x = absurd x
@@ -75,6 +76,7 @@ module _ (now : ℕ) where
   no-pair b [] a h = refl
   no-pair b (p ∷ l) a h = absurd (h (p .first) (a .0) (omega (arith, a .1, a .2)) (inl (omega arith, a .1)))
 
+-- there is one last pair
 pub one-last : (l : List Span) (p q : Span) → LastIs l p → LastIs l q → p ≡ q
 unfolding LastIs
 one-last [] p q x y = absurd x
