@@ -12,11 +12,11 @@ import struct
 import sys
 
 SJ, LJ, SL, LL, SA, LA, SR, LR = range(8)
-# The judge's verdicts by their code; a value goes into the braces. Only the first two grant.
+# The judge's verdicts by their code, with what goes into the braces. Only the first two grant.
 VERDICTS = {
     101: "granted: the sheet was added while the model was in, tick {}",
     102: "granted: the model joined liberally a sheet added liberally, tick {}",
-    103: "denied: the model was never granted the sheet",
+    103: "denied: the model was never granted the sheet up to tick {now}",
     104: "denied: a strict leave of the model ended the grant at tick {}",
     105: "denied: a strict remove of the sheet ended the grant at tick {}",
 }
@@ -119,7 +119,7 @@ def judged(gate, model, sheet, now):
     code, value = answer >> 32, answer & 0xFFFFFFFF
     if code in PLACED:
         return f"refused {code} at {value}"
-    return VERDICTS[code].format(value) if code in VERDICTS else f"refused {code}"
+    return VERDICTS[code].format(value, now=now) if code in VERDICTS else f"refused {code}"
 
 
 def main(arguments):

@@ -1,4 +1,4 @@
-/* A plot loader: says in words whether a model is granted a sheet, since when, or what ended the grant and when.
+/* A plot loader: says in words whether a model is granted a sheet, and by which moment; or what ended the grant, and when.
  *
  *     loader MODEL-STRIP SHEET-STRIP NOW
  *     loader --book BOOK MODEL SHEET [NOW]
@@ -52,9 +52,10 @@ static uint32_t read_number(const char *text, const char *what, unsigned long mo
     return (uint32_t)number;
 }
 
-/* The answer in words, and the exit status that goes with it. */
-static int say(uint64_t answer)
+/* Asks the judge and says its answer in words; the exit status that goes with it. */
+static int say(const uint8_t *model, size_t model_bytes, const uint8_t *sheet, size_t sheet_bytes, uint32_t now)
 {
+    uint64_t answer = judge(model, model_bytes, sheet, sheet_bytes, now);
     uint32_t value = FERRULEBEE_VALUE(answer);
     switch (FERRULEBEE_CODE(answer)) {
     case FERRULEBEE_BY_ADD:
@@ -64,7 +65,7 @@ static int say(uint64_t answer)
         printf("granted: the model joined liberally a sheet added liberally, tick %" PRIu32 "\n", value);
         return 0;
     case FERRULEBEE_NONE:
-        printf("denied: the model was never granted the sheet\n");
+        printf("denied: the model was never granted the sheet up to tick %" PRIu32 "\n", now);
         return 1;
     case FERRULEBEE_STRICT_LEAVE:
         printf("denied: a strict leave of the model ended the grant at tick %" PRIu32 "\n", value);
@@ -97,7 +98,7 @@ static int judge_strips(char **words)
     static uint8_t model[STRIP_ROOM], sheet[STRIP_ROOM];
     size_t model_bytes = read_file(words[0], model, sizeof model);
     size_t sheet_bytes = read_file(words[1], sheet, sizeof sheet);
-    return say(judge(model, model_bytes, sheet, sheet_bytes, read_number(words[2], "tick", UINT32_MAX)));
+    return say(model, model_bytes, sheet, sheet_bytes, read_number(words[2], "tick", UINT32_MAX));
 }
 
 /* The strip of one carrier up to a tick, out of a book's records: those with a kind of its side, which starts
@@ -120,6 +121,7 @@ static int judge_book(char **words, int count)
     static uint32_t records[FERRULEBEE_EVENTS];
     uint32_t m = read_number(words[1], "model (0 to 63)", FERRULEBEE_MODELS - 1);
     uint32_t s = read_number(words[2], "sheet (0 to 255)", FERRULEBEE_SHEETS - 1);
+    uint32_t now = count == 4 ? read_number(words[3], "tick", UINT32_MAX) : 0;
     size_t length = read_file(words[0], book, sizeof book);
     ferrulebee_book_read_answer answer = ferrulebee_book_read(book, length, records, FERRULEBEE_EVENTS);
     if (answer.code != 0) {
@@ -129,15 +131,17 @@ static int judge_book(char **words, int count)
         printf(": the book is not good\n");
         return 2;
     }
-    uint32_t closed = answer.group.closed, now = count == 4 ? read_number(words[3], "tick", UINT32_MAX) : closed;
+    uint32_t closed = answer.group.closed;
+    if (count < 4)
+        now = closed;
     if (now > closed) {
         fprintf(stderr, "loader: the book ends at tick %" PRIu32 ", and nothing is known of tick %" PRIu32 "\n", closed, now);
         return 2;
     }
-    size_t kept = (length - FERRULEBEE_BOOK_HEADER) / 4;
-    size_t model_bytes = cut(records, kept, FERRULEBEE_SJ, m, now, model);
-    size_t sheet_bytes = cut(records, kept, FERRULEBEE_SA, s, now, sheet);
-    return say(judge(model, model_bytes, sheet, sheet_bytes, now));
+    size_t total = (length - FERRULEBEE_BOOK_HEADER) / 4;
+    size_t model_bytes = cut(records, total, FERRULEBEE_SJ, m, now, model);
+    size_t sheet_bytes = cut(records, total, FERRULEBEE_SA, s, now, sheet);
+    return say(model, model_bytes, sheet, sheet_bytes, now);
 }
 
 int main(int count, char **words)

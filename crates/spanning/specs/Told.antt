@@ -1,4 +1,5 @@
--- What the judge's verdict at now says of the spans. Which of the two strict events it names the spans can't tell; `Judged` does.
+-- What the judge's verdict at now says of the spans. Which of the two strict events it names, which tick of the last span is the latest moment, and by what,
+-- the spans can't tell; `Judged` does.
 use mathlib.Core.Path.{_≡_}
 use mathlib.Core.List.{List, [], _∷_}
 use mathlib.Core.Logic.{_⊎_}

@@ -95,7 +95,7 @@ idle = replacing (ours .fresh) (ours .request) taken (ours .read) (ours .mask) (
 abbrev pub counting : Gate Group
 counting = replacing (ours .fresh) (ours .request) (λ g. taken (counted g (g .closed + 1))) (ours .read) (ours .mask) (ours .deliver) (ours .delivered) (ours .judge) (ours .judgeBytes)
 
--- right in the first tick; later ticks are oneMore, and nothing else happens
+-- right in the first tick; later ticks are counted, and nothing else happens
 abbrev pub frozen : Gate Group
 frozen = replacing (ours .fresh) (ours .request) (λ g. cond (eqb (g .closed) 0) (ours .close g) (taken (counted g (g .closed + 1)))) (ours .read) (ours .mask) (ours .deliver) (ours .delivered) (ours .judge) (ours .judgeBytes)
 
@@ -172,11 +172,12 @@ heldDated = judging (λ m s now. dated (verdictValue (ours .judge m s now) - 1) 
 abbrev pub earlyDated : Gate Group
 earlyDated = judging (λ m s now. dated (earliest (historyOf m) (historyOf s) 0 now) (ours .judge m s now)) (ours .judgeBytes)
 
--- with the tick of the latest strict event
+-- the tick of the latest strict event, 0 where there is none
 unfoldable pub latestStrict : History → History → ℕ → ℕ
 latestStrict model sheet zero = 0
 latestStrict model sheet (suc t) = cond (strict model sheet (suc t)) (suc t) (latestStrict model sheet t)
 
+-- with the tick of the latest strict event
 abbrev pub lateDated : Gate Group
 lateDated = judging (λ m s now. dated (latestStrict (historyOf m) (historyOf s) now) (ours .judge m s now)) (ours .judgeBytes)
 
