@@ -96,9 +96,10 @@ static int say(const uint8_t *model, size_t model_bytes, const uint8_t *sheet, s
 static int judge_strips(char **words)
 {
     static uint8_t model[STRIP_ROOM], sheet[STRIP_ROOM];
+    uint32_t now = read_number(words[2], "tick", UINT32_MAX);
     size_t model_bytes = read_file(words[0], model, sizeof model);
     size_t sheet_bytes = read_file(words[1], sheet, sizeof sheet);
-    return say(model, model_bytes, sheet, sheet_bytes, read_number(words[2], "tick", UINT32_MAX));
+    return say(model, model_bytes, sheet, sheet_bytes, now);
 }
 
 /* The strip of one carrier up to a tick, out of a book's records: those with a kind of its side, which starts
