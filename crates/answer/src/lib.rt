@@ -1,4 +1,6 @@
 // The keeper's answers: text gathers in a buffer, which is written out before the program waits for more input.
+#![tactic(auto)]
+
 use ask::line;
 use group::{CountAnswer, ReadAnswer};
 use libc::STDOUT_FILENO;

@@ -1,4 +1,6 @@
 // What the next line of standard input asks for: a command with its numbers, or the reason why it is none.
+#![tactic(auto)]
+
 mod command;
 pub mod input;
 pub mod line;

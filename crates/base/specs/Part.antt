@@ -4,4 +4,4 @@ use Rattle.std.specs.Borrow.{Bor}
 
 -- the address (block and byte) of word i of a list
 abbrev pub word_at : Bor (List ℕ) → ℕ → ℕ × ℕ
-word_at s i = (s.ptr.0, i * 4 + s.ptr.1)
+word_at s i = (s.ref_ptr.0, i * 4 + s.ref_ptr.1)

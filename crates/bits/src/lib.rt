@@ -1,4 +1,6 @@
 // Bits of words.
+#![tactic(auto)]
+
 ghost use Rattle.std.specs.Prelude.{◌≡◌, true, cond, ◌<◌};
 ghost use Rattle.base.specs.HowMany.{how_many};
 ghost use Rattle.bits.specs.Bit.{width, bit, next_bit, with_bit, after_word};

@@ -1,4 +1,6 @@
 // A close: the open tick's requests come to count, all at once, and the next tick is open.
+#![tactic(auto)]
+
 ghost use Rattle.std.specs.Prelude.{◌≡◌, ◌<◌};
 ghost use Rattle.rules.specs.Ranges.{ticks};
 ghost use Rattle.group.specs.Close.{closed_group, close_answer};

@@ -1,4 +1,6 @@
 // Deliveries to a model: by grants (`granted`), and from one group, by its grants as of its last close. The group stays as it is.
+#![tactic(auto)]
+
 pub mod granted;
 
 ghost use Rattle.std.specs.Prelude.{◌≡◌, length};

@@ -1,4 +1,6 @@
 // The evidence: the tail of the strip that has the latest moment's record, from that record on.
+#![tactic(auto)]
+
 ghost use Rattle.std.specs.Prelude.{◌≡◌, ◌≤◌, length};
 ghost use Rattle.judge.specs.Judge.{judged_by};
 ghost use Rattle.evidence.specs.Evidence.{place_of, evidence_of, start_of};

@@ -1,5 +1,7 @@
 // The gate for C. Each export is its call with the same promise; enums and parts of lists cross as numbers.
 // Here the judge: plain numbers and slices in, one number out.
+#![tactic(auto)]
+
 mod book_calls;
 mod deliver;
 mod gate;

@@ -1,4 +1,6 @@
 // What the judge answers, and the rules' number and value for each case (RULES.md 6.3).
+#![tactic(auto)]
+
 ghost use Rattle.std.specs.Prelude.{◌≡◌};
 ghost use Rattle.formula.specs.Answer.{verdict_number, verdict_value};
 

@@ -1,4 +1,6 @@
 // The grants after a tick, changed where they stand. Most ticks name few carriers, so most words need no look.
+#![tactic(auto)]
+
 ghost use Rattle.std.specs.Prelude.{◌≡◌, ◌<◌, length, get_or};
 ghost use Rattle.rules.specs.Ranges.{sheets};
 ghost use Rattle.grants.specs.Words.{Sized, closed_words};

@@ -1,5 +1,7 @@
 // A group: its grants, its memberships and its open tick, in one record that goes by value through requests and closes; the fresh group, and what a group
 // is asked. What a request and a close make of it stands in specs/, too; the crates `request` and `close` have the calls.
+#![tactic(auto)]
+
 ghost use Rattle.std.specs.Prelude.{◌≡◌};
 ghost use Rattle.group.specs.Count.{count_answer};
 ghost use Rattle.group.specs.Fresh.{fresh_group, fresh_answer};

@@ -1,4 +1,6 @@
 // The history judge: from a model's strip, a sheet's strip and now, whether the formula grants, since which moment or for which cause not.
+#![tactic(auto)]
+
 pub mod check;
 pub mod scan;
 

@@ -1,4 +1,6 @@
 // A console for the person who keeps a group: one command a line, one answer a line. What decides is a call of the proved library.
+#![tactic(auto)]
+
 ghost use Rattle.std.specs.Prelude.{◌≡◌, length};
 
 mod console;

@@ -1,4 +1,6 @@
 // Lists who may read what in a book: every model and sheet that the judge grants at the book's last tick, with the moment.
+#![tactic(auto)]
+
 use formula::{Moment, Verdict};
 use report::page::{Out, Page};
 use report::{Book, Words, page};

@@ -1,4 +1,6 @@
 // The judge for the plot loader: a strip comes as bytes, four a word, and the answer goes as one number.
+#![tactic(auto)]
+
 ghost use Rattle.std.specs.Prelude.{◌≡◌, ◌+◌, ◌*◌, ◌/◌, ◌^◌, ◌<◌, ◌≤◌, length};
 ghost use Rattle.formula.specs.Answer.{verdict_number, verdict_value};
 ghost use Rattle.rules.specs.Ranges.{events};

@@ -1,4 +1,6 @@
 // The look at the granted sheets before a byte is written: the first faulty one, and the sums up to it.
+#![tactic(auto)]
+
 ghost use Rattle.std.specs.Prelude.{◌≡◌, true, ◌^◌, ◌<◌};
 ghost use Rattle.rules.specs.Ranges.{models};
 ghost use Rattle.store.specs.Store.{good_store};

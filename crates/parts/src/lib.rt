@@ -1,4 +1,6 @@
 // The granted sheets of a store and their parts, written one after the other, once all is known to be good and to fit.
+#![tactic(auto)]
+
 ghost use Rattle.std.specs.Prelude.{◌≡◌, ◌++◌, ◌+◌, ◌*◌, ◌≤◌, ◌<◌, length, drop};
 ghost use Rattle.rules.specs.Ranges.{models, sheets};
 ghost use Rattle.wire.specs.Put.{put};

@@ -1,5 +1,7 @@
 // The pass over two strips, taken a tick at a time: for callers that want to know what held between the events. The judge, which wants only the end, has a loop
 // of its own over the same steps and laws: a turn that two loops share is not inlined, and costs it a third of its speed.
+#![tactic(auto)]
+
 ghost use Rattle.std.specs.Prelude.{◌≡◌, ◌≤◌, length};
 ghost use Rattle.pass.specs.Pass.{begun, advanced};
 

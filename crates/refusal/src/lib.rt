@@ -1,4 +1,6 @@
 // What refuses a request to a group, in the order of the refusals.
+#![tactic(auto)]
+
 ghost use Rattle.std.specs.Prelude.{◌≡◌, ◌<◌};
 ghost use Rattle.rules.specs.Ranges.{models, sheets};
 ghost use Rattle.event.specs.Carrier.{carriers};

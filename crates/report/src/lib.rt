@@ -1,4 +1,6 @@
 // What the programs that report on a book share: the book from standard input, the strips of its sheets, and the lines that every report has.
+#![tactic(auto)]
+
 pub mod page;
 
 use libc::STDIN_FILENO;

@@ -1,4 +1,6 @@
 // A request to a group: where nothing refuses it, the mark that it leaves in the open tick.
+#![tactic(auto)]
+
 ghost use Rattle.std.specs.Prelude.{◌≡◌, ◌<◌};
 ghost use Rattle.event.specs.Carrier.{carriers};
 ghost use Rattle.group.specs.Request.{marked_group, request_answer};

@@ -1,4 +1,6 @@
 // Sets of numbers below 256, kept as four words.
+#![tactic(auto)]
+
 ghost use Rattle.std.specs.Prelude.{◌≡◌, true, cond, ◌<◌};
 ghost use Rattle.sets.specs.Set.{has, with, either, after};
 

@@ -1,4 +1,6 @@
 // When could a model read a sheet? From their strips and now, the spans of ticks in which the grant held, as pairs (first tick, last tick).
+#![tactic(auto)]
+
 ghost use Rattle.std.specs.Prelude.{◌≡◌, ◌≤◌, length};
 ghost use Rattle.judge.specs.Judge.{StripsAccepted};
 ghost use Rattle.span.specs.Answer.{spans_in, spans_answer, list_after};

@@ -1,4 +1,6 @@
 // The spans of a grant as they are found, tick by tick: which one is open, how many have ended, and the pairs of those.
+#![tactic(auto)]
+
 ghost use Rattle.std.specs.Prelude.{◌≡◌, cond, ◌≤◌, eqb};
 ghost use Rattle.spanning.specs.Steps.{most, pair_at, ended, ended_list, turned, turned_list};
 

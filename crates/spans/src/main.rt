@@ -1,4 +1,6 @@
 // When could a model read a sheet? Lists the spans of a book, of every model and sheet or of those that the arguments name.
+#![tactic(auto)]
+
 mod ask;
 
 ghost use Rattle.std.specs.Prelude.{◌/◌, ◌≤◌};

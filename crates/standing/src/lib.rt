@@ -1,4 +1,5 @@
 // How a pair of a model and a sheet stands after each tick, by their events in it, and that this tells what the formula says. No code: crates/stepping has it.
+#![tactic(auto)]
 
 // How the pair stands after a tick: the latest moment, or the strict event that ended the grant, with its tick.
 #[derive(Drop)]

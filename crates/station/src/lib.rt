@@ -1,4 +1,6 @@
 // A station: its groups side by side in one lent list, asked for a model and a sheet.
+#![tactic(auto)]
+
 ghost use Rattle.std.specs.Prelude.{◌≡◌, cond, ◌+◌, ◌*◌, ◌^◌, ◌<◌};
 ghost use Rattle.station.specs.Mask.{grants, list_refusal, looked_at, answer_with, mask_answer};
 

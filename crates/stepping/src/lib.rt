@@ -1,4 +1,6 @@
 // From one tick with an event to the next, and how the pair stands then: what the judge and the spans go by.
+#![tactic(auto)]
+
 ghost use Rattle.std.specs.Prelude.{◌≡◌};
 ghost use Rattle.standing.specs.Scan.{told_by, holding, ended_by, stands_after, step_of};
 ghost use Rattle.stepping.specs.Next.{head_of};

@@ -1,4 +1,6 @@
 // A sheet store: its header, its entries, and what is wrong with one. The true sum of an entry is formed in 64 bits, where two words cannot wrap.
+#![tactic(auto)]
+
 ghost use Rattle.std.specs.Prelude.{◌≡◌, true, ◌+◌, ◌*◌, ◌≤◌, ◌<◌, length};
 ghost use Rattle.store.specs.Store.{good_store, sheet_count};
 ghost use Rattle.store.specs.Entry.{offset, sheet_length, entry_fault};

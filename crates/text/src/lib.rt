@@ -1,4 +1,6 @@
 // Text in a lent buffer: bytes and decimal numbers, one behind the other. What doesn't fit is left out whole.
+#![tactic(auto)]
+
 ghost use Rattle.std.specs.Prelude.{◌≡◌};
 ghost use Rattle.text.specs.Text.{added, added_end, AddsDecimal};
 

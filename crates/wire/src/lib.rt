@@ -1,4 +1,6 @@
 // Words in bytes: unsigned 32-bit numbers, little-endian. Every file number of the gate stands so.
+#![tactic(auto)]
+
 ghost use Rattle.std.specs.Prelude.{◌≡◌, ◌++◌, ◌+◌, ◌*◌, ◌≤◌, ◌/◌, length, drop};
 ghost use Rattle.wire.specs.Word.{le32};
 ghost use Rattle.wire.specs.Put.{put32};

@@ -1,1 +1,2 @@
 // Wrong gates, and that the demands shut them out. No code.
+#![tactic(auto)]
