@@ -10,7 +10,7 @@ use group::{Answer, Group};
 use rules::{NO_TICK_LEFT, TICKS};
 
 // All of a close but the grants: who is in after the tick, and the sheets with an add in it.
-#[derive(Drop)]
+#[derive(Clone, Copy)]
 pub struct Settled {
     pub members: u64,
     pub adds: [u64; 4],

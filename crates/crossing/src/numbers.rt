@@ -8,7 +8,7 @@ use group::ReadAnswer;
 
 // A refusal's number, or 0 with 1 for granted and 0 for denied.
 #[repr(C)]
-#[derive(Drop)]
+#[derive(Clone, Copy)]
 pub struct Read {
     pub code: u32,
     pub granted: u32,
@@ -32,7 +32,7 @@ pub fn of_read(answer: ReadAnswer) -> Read
 
 // A refusal's number with its place, the sheet for 32 and 33 and else 0; or 0 with the delivery's total length.
 #[repr(C)]
-#[derive(Drop)]
+#[derive(Clone, Copy)]
 pub struct Delivered {
     pub code: u32,
     pub place: u32,

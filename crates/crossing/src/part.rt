@@ -8,7 +8,7 @@ use formula::{Moment, Verdict};
 
 // list: 0 the model's strip, 1 the sheet's.
 #[repr(C)]
-#[derive(Drop)]
+#[derive(Clone, Copy)]
 pub struct Part {
     pub list: u32,
     pub first: usize,

@@ -9,7 +9,7 @@ ghost use Rattle.delivery.specs.Answer.{Delivers, buffer_after};
 use group::Group;
 
 // A delivery's answer: its total length; or a refusal's number with its place, the sheet for 32 and 33 and else 0.
-#[derive(Drop)]
+#[derive(Clone, Copy)]
 pub enum Delivery {
     Delivered(u32),
     Refused(u32, u32),

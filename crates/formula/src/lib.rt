@@ -5,21 +5,21 @@ ghost use Rattle.std.specs.Prelude.{◌≡◌};
 ghost use Rattle.formula.specs.Answer.{verdict_number, verdict_value};
 
 // A tick where a bracket of the formula holds.
-#[derive(Drop)]
+#[derive(Clone, Copy)]
 pub enum Moment {
     Add(u32),
     Join(u32),
 }
 
 // Why a grant is not there: no moment ever, or the strict event that ended it, with its tick.
-#[derive(Drop)]
+#[derive(Clone, Copy)]
 pub enum Cause {
     None,
     StrictLeave(u32),
     StrictRemove(u32),
 }
 
-#[derive(Drop)]
+#[derive(Clone, Copy)]
 pub enum Verdict {
     Granted(Moment),
     Denied(Cause),

@@ -13,7 +13,7 @@ use rules::{BAD_GROUP, BAD_NUMBER, GROUPS, MODELS, SHEETS};
 // sj to lr: for each kind, the carriers with an accepted event of it in the open tick.
 // grants: a word a sheet, a bit a model, as of the last close.
 #[repr(C)]
-#[derive(Drop)]
+#[derive(Clone, Copy)]
 pub struct Group {
     pub number: u32,
     pub closed: u32,
@@ -33,14 +33,14 @@ pub struct Group {
 
 // A refusal's number, or 0; and the group, which a refusal leaves as it was.
 #[repr(C)]
-#[derive(Drop)]
+#[derive(Clone, Copy)]
 pub struct Answer {
     pub code: u32,
     pub group: Group,
 }
 
 // A read's answer; a refusal has its number.
-#[derive(Drop)]
+#[derive(Clone, Copy)]
 pub enum ReadAnswer {
     Granted,
     Denied,
@@ -49,7 +49,7 @@ pub enum ReadAnswer {
 
 // A refusal's number, or 0 with the count.
 #[repr(C)]
-#[derive(Drop)]
+#[derive(Clone, Copy)]
 pub struct CountAnswer {
     pub code: u32,
     pub count: u32,

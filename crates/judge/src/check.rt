@@ -6,7 +6,7 @@ ghost use Rattle.judge.specs.Checked.{refused, accepted};
 use strip::Side;
 
 // A refusal's number with its place, 0 where it has none; or 0 and 0.
-#[derive(Drop)]
+#[derive(Clone, Copy)]
 pub struct Checked {
     pub code: u32,
     pub place: u32,

@@ -6,7 +6,7 @@ ghost use Rattle.rules.specs.Ranges.{models};
 ghost use Rattle.store.specs.Store.{good_store};
 ghost use Rattle.look.specs.Look.{checked};
 
-#[derive(Drop)]
+#[derive(Clone, Copy)]
 pub struct Checked {
     // the first faulty sheet; 256 where there is none
     pub stop: u32,

@@ -6,7 +6,7 @@ ghost use Rattle.std.specs.Prelude.{◌≡◌, ◌≤◌, length};
 ghost use Rattle.pass.specs.Pass.{begun, advanced};
 
 // Where the pass stands: the places of the next events, what these are, the last tick taken, and what is known after it.
-#[derive(Drop)]
+#[derive(Clone, Copy)]
 pub struct Pass {
     pub i: usize,
     pub j: usize,

@@ -10,7 +10,7 @@ use spanning::Spanning;
 
 // A refusal's number with its place, 0 where it has none, and count 0; or 0 and 0 with how many spans there are.
 #[repr(C)]
-#[derive(Drop)]
+#[derive(Clone, Copy)]
 pub struct SpansAnswer {
     pub code: u32,
     pub place: u32,

@@ -2,7 +2,7 @@
 #![tactic(auto)]
 
 // How the pair stands after a tick: the latest moment, or the strict event that ended the grant, with its tick.
-#[derive(Drop)]
+#[derive(Clone, Copy)]
 pub enum Standing {
     Never,
     ByAdd(u32),
@@ -12,7 +12,7 @@ pub enum Standing {
 }
 
 // What the pass knows after a tick: the model is in, the sheet's liberal stay, how the pair stands.
-#[derive(Drop)]
+#[derive(Clone, Copy)]
 pub struct Seen {
     pub inside: bool,
     pub liberal: bool,

@@ -9,7 +9,7 @@ use rules::{BAD_LIST, BAD_NUMBER, GROUPS, MODELS, SHEETS};
 
 // A refusal's number, or 0 with the mask of the positions that grant, bit 0 the first.
 #[repr(C)]
-#[derive(Drop)]
+#[derive(Clone, Copy)]
 pub struct MaskAnswer {
     pub code: u32,
     pub mask: u32,

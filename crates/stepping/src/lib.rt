@@ -9,7 +9,7 @@ use formula::{Cause, Moment, Verdict};
 use standing::{Seen, Standing};
 
 // The next event of a strip: its tick and kind; past the strip's end no tick comes.
-#[derive(Drop)]
+#[derive(Clone, Copy)]
 pub struct Head {
     pub tick: u32,
     pub kind: u32,

@@ -1,11 +1,7 @@
 -- `bits::count` meets its contract: the machine counts ones, and the places whose bit is set are as many.
 use borrow.Author.Rules.{rules}
 use Rattle.bits.proofs.Ones.{ones_how_many}
-use Rattle.bits.proofs.count.Statement.{statement}
-use Rattle.bits.proofs.count.Tie as tie
+use Rattle.bits.proofs.count.Goals as goal
 
-returns : tie.Need-returns
+pub returns : goal.returns
 returns c = ones_how_many 64 c.args.word (search rules)
-
-pub count_spec : {M : Type 1} → statement M
-count_spec = tie.close (tie.spec returns)

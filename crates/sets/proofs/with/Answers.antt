@@ -1,0 +1,8 @@
+-- `sets::with` meets its contract.
+use Rattle.sets.specs.Set.{with}
+use borrow.Author.Rules.{rules}
+use Rattle.sets.proofs.with.Goals as goal
+
+pub returns : goal.returns
+unfolding with
+returns c = simp c.with_bit.ensures
