@@ -1,0 +1,13 @@
+-- `grants::gain` meets its contract: the sheets of the first k words have their new words.
+use mathlib.Core.Path.{refl}
+use Prim.Native.Nat.{◌-◌, ◌/◌, ◌≤◌}
+use native.Mathlib.Omega.{arith}
+use borrow.Author.Tests.{le-ltb}
+use Rattle.bits.specs.Bit.{width}
+use Rattle.grants.specs.Gain.{gained_words}
+use Rattle.grants.proofs.Apart.{Upto, upto_more, upto_all}
+use borrow.Author.Rules.{rules}
+use Rattle.grants.proofs.gain.Given as goal
+
+abbrev pub invariant-loop-k : goal.invariant-loop-k
+invariant-loop-k l = (l.k ≤ 4) × Upto (gained_words l.initial.words l.sr l.adds l.liberal l.members l.lj) l.initial.words l.k l.words

@@ -1,0 +1,5 @@
+use borrow.Author.Rules.{rules}
+use Rattle.stepping.proofs.step.Goals as goal
+
+pub returns : goal.returns
+returns c = rw c.stands-standing.ensures
