@@ -1,0 +1,6 @@
+-- `refusal::sheet_marked` meets its contract.
+use borrow.Author.Rules.{rules}
+use Rattle.refusal.proofs.sheet_marked.Goals as goal
+
+pub returns : goal.returns
+returns c = simp (c.has.ensures, c.has-2.ensures, c.has-3.ensures, c.has-4.ensures)
