@@ -1,37 +1,28 @@
 -- `refusal::request_refusal` meets its contract: past the ranges the four tests are those of the definition, in its order.
 use mathlib.Core.Path.{◌≡◌, sym, subst}
 use mathlib.Core.Bool.{Bool, cond}
-use Prim.Native.Nat.{ℕ, ◌<◌}
+use Prim.Native.Nat.{ℕ, ◌<◌, ◌≤◌}
 use lib.Dec.{leb}
 use borrow.Author.Tests.{lt-ltb, le-ltb, le-leb, lt-leb}
 use Rattle.rules.specs.Ranges.{ticks}
 use Rattle.rules.specs.Refusals.{no_tick_left, second_event, already_in, not_in}
-use Rattle.event.specs.Carrier.{carriers}
+use Rattle.rules.specs.Kinds.{LR}
+use Rattle.event.specs.Carrier.{carriers, entering}
+use Rattle.group.specs.Marks.{carrier_marked, carrier_in}
+use Rattle.group.specs.declared.Group.{Group}
 use Rattle.group.specs.Request.{request_refusal}
 use borrow.Author.Rules.{rules}
 use Rattle.refusal.proofs.request_refusal.Goals as goal
 
-  abbrev marked : Bool
-  marked = c.before.before.carrier-marked.result
-
-  abbrev inside : Bool
-  inside = c.before.carrier-in.result
-
-  in_order : request_refusal start.args.group start.args.kind start.args.number
-      ≡ cond (leb ticks start.args.group.closed) no_tick_left
-      (cond marked second_event
-      (cond c.is-entering.result (cond inside already_in 0) (cond inside 0 not_in)))
-  unfolding request_refusal
-  in_order =
-      let at = c.before.before.before.before in
-      let number : start.args.number < carriers start.args.kind = subst (λ (n : ℕ). start.args.number < n) at.before.carriers-of.ensures at.if2.false in
-      simp (
-        le-ltb _ _ at.before.before.if1.false,
-        lt-leb _ _ number,
-        c.before.before.carrier-marked.ensures,
-        c.before.carrier-in.ensures,
-        c.is-entering.ensures,
-      )
+-- where the kind and the number are in range, what is left of the order, over what the calls gave
+in_order : (g : Group) (kind number most : ℕ) (marked inside enters : Bool) → kind ≤ LR → number < most → most ≡ carriers kind
+    → marked ≡ carrier_marked g kind number → inside ≡ carrier_in g kind number → enters ≡ entering kind
+    → request_refusal g kind number
+      ≡ cond (leb ticks g.closed) no_tick_left (cond marked second_event (cond enters (cond inside already_in 0) (cond inside 0 not_in)))
+unfolding request_refusal
+in_order g kind number most marked inside enters known below e m i n =
+    let b : number < carriers kind = subst (λ (n : ℕ). number < n) e below in
+    simp (le-ltb _ _ known, lt-leb _ _ b, m, i, n)
 
 pub returns-then-kind-gt-LR : goal.returns-then-kind-gt-LR
 unfolding request_refusal
@@ -42,19 +33,19 @@ unfolding request_refusal
 returns-then-number-carriers_of c = simp (le-ltb _ _ c.if-kind-gt-LR.false, sym c.carriers_of.ensures, le-leb _ _ c.if-number-carriers_of.true)
 
 pub returns-then-full : goal.returns-then-full
-returns-then-full c = simp (in_order c, c.if-full.true)
+returns-then-full c = simp (in_order _ _ _ _ _ _ _ c.if-kind-gt-LR.false c.if-number-carriers_of.false c.carriers_of.ensures c.carrier_marked-marked.ensures c.carrier_in-inside.ensures c.is_entering-entering.ensures, c.if-full.true)
 
 pub returns-then-marked : goal.returns-then-marked
-returns-then-marked c = simp (in_order c, c.if-full.false, c.if-marked.true)
+returns-then-marked c = simp (in_order _ _ _ _ _ _ _ c.if-kind-gt-LR.false c.if-number-carriers_of.false c.carriers_of.ensures c.carrier_marked-marked.ensures c.carrier_in-inside.ensures c.is_entering-entering.ensures, c.if-full.false, c.if-marked.true)
 
 pub returns-then-inside : goal.returns-then-inside
-returns-then-inside c = simp (in_order c, c.if-full.false, c.if-marked.false, c.if-entering.true, c.if-inside.true)
+returns-then-inside c = simp (in_order _ _ _ _ _ _ _ c.if-kind-gt-LR.false c.if-number-carriers_of.false c.carriers_of.ensures c.carrier_marked-marked.ensures c.carrier_in-inside.ensures c.is_entering-entering.ensures, c.if-full.false, c.if-marked.false, c.if-entering.true, c.if-inside.true)
 
 pub returns-else-inside : goal.returns-else-inside
-returns-else-inside c = simp (in_order c, c.if-full.false, c.if-marked.false, c.if-entering.true, c.if-inside.false)
+returns-else-inside c = simp (in_order _ _ _ _ _ _ _ c.if-kind-gt-LR.false c.if-number-carriers_of.false c.carriers_of.ensures c.carrier_marked-marked.ensures c.carrier_in-inside.ensures c.is_entering-entering.ensures, c.if-full.false, c.if-marked.false, c.if-entering.true, c.if-inside.false)
 
 pub returns-then-inside-2 : goal.returns-then-inside-2
-returns-then-inside-2 c = simp (in_order c, c.if-full.false, c.if-marked.false, c.if-entering.false, c.if-inside-2.true)
+returns-then-inside-2 c = simp (in_order _ _ _ _ _ _ _ c.if-kind-gt-LR.false c.if-number-carriers_of.false c.carriers_of.ensures c.carrier_marked-marked.ensures c.carrier_in-inside.ensures c.is_entering-entering.ensures, c.if-full.false, c.if-marked.false, c.if-entering.false, c.if-inside-2.true)
 
 pub returns-else-inside-2 : goal.returns-else-inside-2
-returns-else-inside-2 c = simp (in_order c, c.if-full.false, c.if-marked.false, c.if-entering.false, c.if-inside-2.false)
+returns-else-inside-2 c = simp (in_order _ _ _ _ _ _ _ c.if-kind-gt-LR.false c.if-number-carriers_of.false c.carriers_of.ensures c.carrier_marked-marked.ensures c.carrier_in-inside.ensures c.is_entering-entering.ensures, c.if-full.false, c.if-marked.false, c.if-entering.false, c.if-inside-2.false)
