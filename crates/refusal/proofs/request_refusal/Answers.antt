@@ -33,19 +33,19 @@ unfolding request_refusal
 returns-then-number-carriers_of c = simp (le-ltb _ _ c.if-kind-gt-LR.false, sym c.carriers_of.ensures, le-leb _ _ c.if-number-carriers_of.true)
 
 pub returns-then-full : goal.returns-then-full
-returns-then-full c = simp (in_order _ _ _ _ _ _ _ c.if-kind-gt-LR.false c.if-number-carriers_of.false c.carriers_of.ensures c.carrier_marked-marked.ensures c.carrier_in-inside.ensures c.is_entering-entering.ensures, c.if-full.true)
+returns-then-full c = simp (in_order c.args.group c.args.kind c.args.number _ _ _ _ c.if-kind-gt-LR.false c.if-number-carriers_of.false c.carriers_of.ensures c.carrier_marked-marked.ensures c.carrier_in-inside.ensures c.is_entering-entering.ensures, le-leb _ _ c.if-full.true)
 
 pub returns-then-marked : goal.returns-then-marked
-returns-then-marked c = simp (in_order _ _ _ _ _ _ _ c.if-kind-gt-LR.false c.if-number-carriers_of.false c.carriers_of.ensures c.carrier_marked-marked.ensures c.carrier_in-inside.ensures c.is_entering-entering.ensures, c.if-full.false, c.if-marked.true)
+returns-then-marked c = simp (in_order c.args.group c.args.kind c.args.number _ _ _ _ c.if-kind-gt-LR.false c.if-number-carriers_of.false c.carriers_of.ensures c.carrier_marked-marked.ensures c.carrier_in-inside.ensures c.is_entering-entering.ensures, lt-leb _ _ c.if-full.false, c.if-marked.true)
 
 pub returns-then-inside : goal.returns-then-inside
-returns-then-inside c = simp (in_order _ _ _ _ _ _ _ c.if-kind-gt-LR.false c.if-number-carriers_of.false c.carriers_of.ensures c.carrier_marked-marked.ensures c.carrier_in-inside.ensures c.is_entering-entering.ensures, c.if-full.false, c.if-marked.false, c.if-entering.true, c.if-inside.true)
+returns-then-inside c = simp (in_order c.args.group c.args.kind c.args.number _ _ _ _ c.if-kind-gt-LR.false c.if-number-carriers_of.false c.carriers_of.ensures c.carrier_marked-marked.ensures c.carrier_in-inside.ensures c.is_entering-entering.ensures, lt-leb _ _ c.if-full.false, c.if-marked.false, c.if-entering.true, c.if-inside.true)
 
 pub returns-else-inside : goal.returns-else-inside
-returns-else-inside c = simp (in_order _ _ _ _ _ _ _ c.if-kind-gt-LR.false c.if-number-carriers_of.false c.carriers_of.ensures c.carrier_marked-marked.ensures c.carrier_in-inside.ensures c.is_entering-entering.ensures, c.if-full.false, c.if-marked.false, c.if-entering.true, c.if-inside.false)
+returns-else-inside c = simp (in_order c.args.group c.args.kind c.args.number _ _ _ _ c.if-kind-gt-LR.false c.if-number-carriers_of.false c.carriers_of.ensures c.carrier_marked-marked.ensures c.carrier_in-inside.ensures c.is_entering-entering.ensures, lt-leb _ _ c.if-full.false, c.if-marked.false, c.if-entering.true, c.if-inside.false)
 
 pub returns-then-inside-2 : goal.returns-then-inside-2
-returns-then-inside-2 c = simp (in_order _ _ _ _ _ _ _ c.if-kind-gt-LR.false c.if-number-carriers_of.false c.carriers_of.ensures c.carrier_marked-marked.ensures c.carrier_in-inside.ensures c.is_entering-entering.ensures, c.if-full.false, c.if-marked.false, c.if-entering.false, c.if-inside-2.true)
+returns-then-inside-2 c = simp (in_order c.args.group c.args.kind c.args.number _ _ _ _ c.if-kind-gt-LR.false c.if-number-carriers_of.false c.carriers_of.ensures c.carrier_marked-marked.ensures c.carrier_in-inside.ensures c.is_entering-entering.ensures, lt-leb _ _ c.if-full.false, c.if-marked.false, c.if-entering.false, c.if-inside-2.true)
 
 pub returns-else-inside-2 : goal.returns-else-inside-2
-returns-else-inside-2 c = simp (in_order _ _ _ _ _ _ _ c.if-kind-gt-LR.false c.if-number-carriers_of.false c.carriers_of.ensures c.carrier_marked-marked.ensures c.carrier_in-inside.ensures c.is_entering-entering.ensures, c.if-full.false, c.if-marked.false, c.if-entering.false, c.if-inside-2.false)
+returns-else-inside-2 c = simp (in_order c.args.group c.args.kind c.args.number _ _ _ _ c.if-kind-gt-LR.false c.if-number-carriers_of.false c.carriers_of.ensures c.carrier_marked-marked.ensures c.carrier_in-inside.ensures c.is_entering-entering.ensures, lt-leb _ _ c.if-full.false, c.if-marked.false, c.if-entering.false, c.if-inside-2.false)

@@ -1,0 +1,24 @@
+-- The loop has passed no event of the tick.
+use borrow.Author.Rules.{rules}
+use mathlib.Core.Path.{◌≡◌, sym, ◌∙◌}
+use mathlib.Core.Bool.{Bool}
+use mathlib.Core.List.{List}
+use Prim.Native.Nat.{ℕ, ◌≤◌, ◌-◌}
+use native.Mathlib.Omega.{arith}
+use lib.Dec.{eqb}
+use lib.ListN.{length, get_or}
+use borrow.Author.Count.{below_more}
+use borrow.Author.Tests.{eq-eqb, ne_eqb}
+use Rattle.base.proofs.First.{None, first_is, first_none}
+use Rattle.event.specs.Word.{tick_of}
+use Rattle.evidence.specs.Evidence.{place_of}
+use Rattle.evidence.proofs.place_of.Given as goal
+
+abbrev pub has : List ℕ → ℕ → ℕ → Bool
+has s t i = eqb (tick_of (get_or s i 0)) t
+
+abbrev pub invariant-loop-i : goal.invariant-loop-i
+invariant-loop-i l = (l.i ≤ length l.s) × None (has l.s l.tick) l.i
+
+abbrev pub decreases-loop-i : goal.decreases-loop-i
+decreases-loop-i l = length l.s - l.i

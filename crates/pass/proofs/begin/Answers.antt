@@ -1,0 +1,5 @@
+use borrow.Author.Rules.{rules}
+use Rattle.pass.proofs.begin.Goals as goal
+
+pub returns : goal.returns
+returns c = cc
