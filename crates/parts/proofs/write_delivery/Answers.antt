@@ -11,8 +11,7 @@ use Rattle.wire.proofs.Put.{put_front}
 use Rattle.parts.specs.Delivery.{parts, delivery_length, delivery_of}
 use Rattle.parts.proofs.Head.{put_headed}
 use borrow.Author.Rules.{rules}
-use Rattle.parts.proofs.write_delivery.Statement.{statement}
-use Rattle.parts.proofs.write_delivery.Tie as tie
+use Rattle.parts.proofs.write_delivery.Goals as goal
 
 -- o1 and o2 are the buffer after the words, o3 after the parts
 delivery-put : (b ss out o1 o2 o3 : List ℕ) (count total : ℕ) → count ≡ length ss → total ≡ delivery_length b ss → total ≤ length out
@@ -26,27 +25,10 @@ delivery-put b ss out o1 o2 o3 count total ec et room e1 e2 e3 =
     ∙ put_front out (delivery_of b ss)
     ∙ ap (λ (k : ℕ). delivery_of b ss ++ drop k out) long
 
-write32-requires : tie.Need-write32-requires
-write32-requires c κs = search rules
-
-write32-requires-2 : tie.Need-write32-requires-2
-write32-requires-2 c κs = search rules
-
-write-parts-requires : tie.Need-write-parts-requires
-write-parts-requires c κs = search rules
-
-same_length : tie.Need-same-length
-same_length c = search rules
-
-returns : tie.Need-returns
+pub returns : goal.returns
 returns c =
-    let pre = c.before.before.before.before.before.before.before.before.before.before.before.before.before.before.requires in
+    let pre = c.requires in
     delivery-put _ _ _ _ _ _ _ _ pre.1 pre.2 pre.3
-    c.before.before.before.before.before.before.before.before.before.before.write32.ensures
-    c.before.before.before.before.before.before.write322.ensures
-    c.before.before.write-parts.ensures
-
-pub write-delivery-spec : {M : Type 1} → statement M
-write-delivery-spec =
-    tie.close
-    (tie.spec write32-requires write32-requires-2 write-parts-requires same_length returns)
+    c.write32.ensures
+    c.write32-2.ensures
+    c.write_parts.ensures
