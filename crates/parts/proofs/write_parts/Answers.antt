@@ -24,21 +24,19 @@ loop-sheet-preserved-then-not-is_granted c = (search rules, filled_out _ _ _ _ _
 
 pub write_part-at-requires : goal.write_part-at-requires
 write_part-at-requires c =
-    let start = at in
-    let store = start.args.store.now in
+    let store = c.args.store.now in
     let sheet = c.loop-sheet.sheet in
     let turn = c.loop-sheet-test.true in
-    let g = good store start.requires.0.taken in
-    let entry = sound store sheet (fault_free _ _ _ _ start.requires.0.sound turn ((sym c.is_granted.ensures ∙ not-false _ (ap not c.if-not-is_granted.false)))) in
+    let g = good store c.requires.0.taken in
+    let entry = sound store sheet (fault_free _ _ _ _ c.requires.0.sound turn ((sym c.is_granted.ensures ∙ not-false _ (ap not c.if-not-is_granted.false)))) in
     let inside : offset store sheet + sheet_length store sheet ≤ length store = omega (arith, entry.within, g.total) in
-    let room = part_fits _ _ _ _ start.requires.1 _ _ _ turn c.loop-sheet.invariant.1 ((sym c.is_granted.ensures ∙ not-false _ (ap not c.if-not-is_granted.false))) in
-    (omega (arith, entry.inside, g.table), inside, omega (arith, room, length_part store sheet inside, long at))
+    let room = part_fits _ _ _ _ c.requires.1 _ _ _ turn c.loop-sheet.invariant.1 ((sym c.is_granted.ensures ∙ not-false _ (ap not c.if-not-is_granted.false))) in
+    (omega (arith, entry.inside, g.table), inside, omega (arith, room, length_part store sheet inside, (length_filled _ _ _ _ c.requires.1 _ _ _ c.loop-sheet.invariant.0 c.loop-sheet.invariant.1)))
 
 pub loop-sheet-preserved : goal.loop-sheet-preserved
 loop-sheet-preserved c =
-    let start = at in
     let wrote = c.write_part-at.ensures in
-    (search rules, filled_in _ _ _ _ start.requires.1 _ _ _ _ _ c.loop-sheet.invariant.0 c.loop-sheet.invariant.1 ((sym c.is_granted.ensures ∙ not-false _ (ap not c.if-not-is_granted.false))) wrote.0 wrote.1)
+    (search rules, filled_in _ _ _ _ c.requires.1 _ _ _ _ _ c.loop-sheet.invariant.0 c.loop-sheet.invariant.1 ((sym c.is_granted.ensures ∙ not-false _ (ap not c.if-not-is_granted.false))) wrote.0 wrote.1)
 
 pub returns : goal.returns
 returns c =

@@ -22,39 +22,35 @@ pub advance-pass-requires : goal.advance-pass-requires
 advance-pass-requires c = (c.loop-pass.invariant.stands.passed.model.inside, c.loop-pass.invariant.stands.passed.sheet.inside)
 
 pub turn-spanning-requires : goal.turn-spanning-requires
-turn-spanning-requires c = (omega (arith, (( let start = at in let a = start.args in let fm : tick_at a.m.now c.loop-pass.pass.i < never = omega (arith, c.shared_slice_known-1.given c.loop-pass.pass.i) in let fs : tick_at a.s.now c.loop-pass.pass.j < never = omega (arith, c.shared_slice_known-2-1.given c.loop-pass.pass.j) in subst (λ (q : Pass). Turns a.m.now a.s.now c.loop-pass.pass q) (sym c.advance-pass.ensures) (turns _ _ (good_rising _ _ _ start.requires.good_m) (good_rising _ _ _ start.requires.good_s) c.loop-pass.pass c.loop-pass.invariant.stands fm fs c.loop-pass-test.true))).turned.later), small c)
+turn-spanning-requires c = (omega (arith, (( let fm : tick_at c.args.m.now c.loop-pass.pass.i < never = omega (arith, c.shared_slice_known-1.given c.loop-pass.pass.i) in let fs : tick_at c.args.s.now c.loop-pass.pass.j < never = omega (arith, c.shared_slice_known-2-1.given c.loop-pass.pass.j) in subst (λ (q : Pass). Turns c.args.m.now c.args.s.now c.loop-pass.pass q) (sym c.advance-pass.ensures) (turns _ _ (good_rising _ _ _ c.requires.good_m) (good_rising _ _ _ c.requires.good_s) c.loop-pass.pass c.loop-pass.invariant.stands fm fs c.loop-pass-test.true))).turned.later), (let x = c.loop-pass.invariant in let pre = c.requires in omega (arith, x.few, x.stands.passed.model.inside, x.stands.passed.sheet.inside, pre.short_m, pre.short_s)))
 
 pub loop-pass-smaller : goal.loop-pass-smaller
 loop-pass-smaller c =
-    omega (arith, (( let start = at in let a = start.args in let fm : tick_at a.m.now c.loop-pass.pass.i < never = omega (arith, c.shared_slice_known-1.given c.loop-pass.pass.i) in let fs : tick_at a.s.now c.loop-pass.pass.j < never = omega (arith, c.shared_slice_known-2-1.given c.loop-pass.pass.j) in subst (λ (q : Pass). Turns a.m.now a.s.now c.loop-pass.pass q) (sym c.advance-pass.ensures) (turns _ _ (good_rising _ _ _ start.requires.good_m) (good_rising _ _ _ start.requires.good_s) c.loop-pass.pass c.loop-pass.invariant.stands fm fs c.loop-pass-test.true))).turned.more, c.loop-pass-test.true)
+    omega (arith, (( let fm : tick_at c.args.m.now c.loop-pass.pass.i < never = omega (arith, c.shared_slice_known-1.given c.loop-pass.pass.i) in let fs : tick_at c.args.s.now c.loop-pass.pass.j < never = omega (arith, c.shared_slice_known-2-1.given c.loop-pass.pass.j) in subst (λ (q : Pass). Turns c.args.m.now c.args.s.now c.loop-pass.pass q) (sym c.advance-pass.ensures) (turns _ _ (good_rising _ _ _ c.requires.good_m) (good_rising _ _ _ c.requires.good_s) c.loop-pass.pass c.loop-pass.invariant.stands fm fs c.loop-pass-test.true))).turned.more, c.loop-pass-test.true)
 
 pub loop-pass-preserved : goal.loop-pass-preserved
 loop-pass-preserved c =
-    let start = at in
-    let a = start.args in
     let q = c.advance-pass.result in
     let so = c.loop-pass.spanning in
     let e = c.turn-spanning.ensures in
     let g = c.holds.ensures in
-    subst₂ (λ (x : Spanning) (l : List ℕ). Going a.m.now a.s.now a.now a.list-1.now q x l)
+    subst₂ (λ (x : Spanning) (l : List ℕ). Going c.args.m.now c.args.s.now c.args.now c.args.list.now q x l)
     (sym (e.0 ∙ ap (turned so q.tick) g)) (sym (e.1 ∙ ap (turned_list c.loop-pass.list so q.tick) g))
-    (going_on a.m.now a.s.now a.now (good_rising _ _ _ start.requires.good_m) (good_rising _ _ _ start.requires.good_s) (good_upto _ _ _ start.requires.good_m)
-    (good_upto _ _ _ start.requires.good_s) a.list-1.now c.loop-pass.pass so c.loop-pass.list c.loop-pass.invariant q (( let start = at in let a = start.args in let fm : tick_at a.m.now c.loop-pass.pass.i < never = omega (arith, c.shared_slice_known-1.given c.loop-pass.pass.i) in let fs : tick_at a.s.now c.loop-pass.pass.j < never = omega (arith, c.shared_slice_known-2-1.given c.loop-pass.pass.j) in subst (λ (q : Pass). Turns a.m.now a.s.now c.loop-pass.pass q) (sym c.advance-pass.ensures) (turns _ _ (good_rising _ _ _ start.requires.good_m) (good_rising _ _ _ start.requires.good_s) c.loop-pass.pass c.loop-pass.invariant.stands fm fs c.loop-pass-test.true))))
+    (going_on c.args.m.now c.args.s.now c.args.now (good_rising _ _ _ c.requires.good_m) (good_rising _ _ _ c.requires.good_s) (good_upto _ _ _ c.requires.good_m)
+    (good_upto _ _ _ c.requires.good_s) c.args.list.now c.loop-pass.pass so c.loop-pass.list c.loop-pass.invariant q (( let fm : tick_at c.args.m.now c.loop-pass.pass.i < never = omega (arith, c.shared_slice_known-1.given c.loop-pass.pass.i) in let fs : tick_at c.args.s.now c.loop-pass.pass.j < never = omega (arith, c.shared_slice_known-2-1.given c.loop-pass.pass.j) in subst (λ (q : Pass). Turns c.args.m.now c.args.s.now c.loop-pass.pass q) (sym c.advance-pass.ensures) (turns _ _ (good_rising _ _ _ c.requires.good_m) (good_rising _ _ _ c.requires.good_s) c.loop-pass.pass c.loop-pass.invariant.stands fm fs c.loop-pass-test.true))))
 
 pub end-last-requires : goal.end-last-requires
-end-last-requires c = small c
+end-last-requires c = (let x = c.loop-pass.invariant in let pre = c.requires in omega (arith, x.few, x.stands.passed.model.inside, x.stands.passed.sheet.inside, pre.short_m, pre.short_s))
 
 pub returns : goal.returns
 returns c =
-    let start = at in
-    let a = start.args in
     let h = c.loop-pass-test.false in
-    let rm = good_rising _ _ _ start.requires.good_m in
-    let rs = good_rising _ _ _ start.requires.good_s in
-    let um = good_upto _ _ _ start.requires.good_m in
-    let us = good_upto _ _ _ start.requires.good_s in
+    let rm = good_rising _ _ _ c.requires.good_m in
+    let rs = good_rising _ _ _ c.requires.good_s in
+    let um = good_upto _ _ _ c.requires.good_m in
+    let us = good_upto _ _ _ c.requires.good_s in
     let x = c.loop-pass.invariant in
     let e = c.end-last.ensures in (
-      ap (λ (y : Spanning). y.count) e.0 ∙ going_count a.m.now a.s.now a.now rm rs um us a.list-1.now c.loop-pass.pass c.loop-pass.spanning c.loop-pass.list x h,
-      e.1 ∙ going_list a.m.now a.s.now a.now rm rs um us a.list-1.now c.loop-pass.pass c.loop-pass.spanning c.loop-pass.list x h,
+      ap (λ (y : Spanning). y.count) e.0 ∙ going_count c.args.m.now c.args.s.now c.args.now rm rs um us c.args.list.now c.loop-pass.pass c.loop-pass.spanning c.loop-pass.list x h,
+      e.1 ∙ going_list c.args.m.now c.args.s.now c.args.now rm rs um us c.args.list.now c.loop-pass.pass c.loop-pass.spanning c.loop-pass.list x h,
     )

@@ -18,6 +18,10 @@ use Rattle.span.proofs.Fit.{no_room, all_put}
 use borrow.Author.Rules.{rules}
 use Rattle.span.proofs.spans.Goals as goal
 
+-- no more pairs than half the events
+few : (m s : List ℕ) (now : ℕ) → StripsAccepted m s now → length (spans_in m s now) ≤ most
+few m s now x = omega (arith, spans_few m s now, x.short_m, x.short_s)
+
 -- what is answered, and what the list is then, where all pairs fit
 module _ (m s : List ℕ) (now : ℕ) (x : StripsAccepted m s now) (list : List ℕ) (h : 2 * length (spans_in m s now) ≤ length list) where
   answered : (r : SpansAnswer) (n : ℕ) → r ≡ record { code = 0; place = 0; count = n } → n ≡ length (spans_in m s now) → r ≡ spans_answer m s now (length list)
@@ -29,7 +33,6 @@ module _ (m s : List ℕ) (now : ℕ) (x : StripsAccepted m s now) (list : List 
 pub returns-then-checked-ne0 : goal.returns-then-checked-ne0
 returns-then-checked-ne0 c =
     let e = c.check-checked.ensures in
-
     let n : (checked c.args.m.now c.args.s.now c.args.now check.refused check.accepted).code ≡ 0 → ⊥ = λ z. c.if-checked-ne0.true (ap (λ (x : Checked). x.code) e ∙ z) in (
       ap (λ (x : Checked). refused x.code x.place) e ∙ sym (answer_refused c.args.m.now c.args.s.now c.args.now n (length c.args.list.now)),
       sym (list_refused c.args.m.now c.args.s.now c.args.now n c.args.list.now),
@@ -39,7 +42,9 @@ pub pairs-requires : goal.pairs-requires
 pairs-requires c = (check_accepts _ _ _ (sym (ap (λ (x : Checked). x.code) c.check-checked.ensures) ∙ c.if-checked-ne0.false))
 
 pub given-requires : goal.given-requires
-given-requires c = omega (arith, ( omega (arith, spans_few c.args.m.now c.args.s.now c.args.now, ((check_accepts _ _ _ (sym (ap (λ (x : Checked). x.code) c.check-checked.ensures) ∙ c.if-checked-ne0.false))).short_m, ((check_accepts _ _ _ (sym (ap (λ (x : Checked). x.code) c.check-checked.ensures) ∙ c.if-checked-ne0.false))).short_s)), c.pairs.ensures.0)
+given-requires c =
+    let x : StripsAccepted c.args.m.now c.args.s.now c.args.now = check_accepts _ _ _ (sym (ap (λ (x : Checked). x.code) c.check-checked.ensures) ∙ c.if-checked-ne0.false) in
+    omega (arith, few _ _ _ x, c.pairs.ensures.0)
 
 pub pairs-count-requires : goal.pairs-count-requires
 pairs-count-requires c = (check_accepts _ _ _ (sym (ap (λ (x : Checked). x.code) c.check-checked.ensures) ∙ c.if-checked-ne0.false))
@@ -57,4 +62,35 @@ pub pairs-requires-2 : goal.pairs-requires-2
 pairs-requires-2 c = (check_accepts _ _ _ (sym (ap (λ (x : Checked). x.code) c.check-checked.ensures) ∙ c.if-checked-ne0.false))
 
 pub given-requires-2 : goal.given-requires-2
-given-requires-2 c = omega (arith, ( omega (arith, spans_few c.args.m.now c.args.s.now c.args.now, ((check_accepts _ _ _ (sym (ap (λ (x : Checked). x.code) c.check-checked.ensures) ∙ c.if-checked-ne0.false))).short_m, ((check_accepts _ _ _ (sym (ap (λ (x : Checked). x.code) c.check-checked.ensures) ∙ c.if-checked-ne0.false))).short_s)), c.pairs-2.ensures.0)
+given-requires-2 c =
+    let x : StripsAccepted c.args.m.now c.args.s.now c.args.now = check_accepts _ _ _ (sym (ap (λ (x : Checked). x.code) c.check-checked.ensures) ∙ c.if-checked-ne0.false) in
+    omega (arith, few _ _ _ x, c.pairs-2.ensures.0)
+
+pub returns-then-list-m : goal.returns-then-list-m
+returns-then-list-m c =
+    let m = c.args.m.now in
+    let s = c.args.s.now in
+    let now = c.args.now in
+    let list = c.args.list.now in
+    let x : StripsAccepted m s now = check_accepts _ _ _ (sym (ap (λ (x : Checked). x.code) c.check-checked.ensures) ∙ c.if-checked-ne0.false) in
+    -- as many numbers as the strips have words
+    let h : 2 * length (spans_in m s now) ≤ length list = omega (arith, spans_few m s now, c.if-list-m.true) in (
+      answered m s now x list h _ _ c.given.ensures c.pairs.ensures.0,
+      written m s now x list h _ c.pairs.ensures.1,
+    )
+
+pub returns : goal.returns
+returns c =
+    let m = c.args.m.now in
+    let s = c.args.s.now in
+    let now = c.args.now in
+    let list = c.args.list.now in
+    let x : StripsAccepted m s now = check_accepts _ _ _ (sym (ap (λ (x : Checked). x.code) c.check-checked.ensures) ∙ c.if-checked-ne0.false) in
+    -- the count left the list as it was
+    let back = c.pairs-count.ensures.1 ∙ no_room _ [] 0 (omega arith) in
+    let long = ap length back in
+    let h : 2 * length (spans_in m s now) ≤ length list = omega (arith, c.pairs-count.ensures.0, c.if-list-count.false) in
+    let all : List Span = spans_in m s now in (
+      answered m s now x list h _ _ c.given-2.ensures c.pairs-2.ensures.0,
+      written m s now x list h _ (c.pairs-2.ensures.1 ∙ ap (λ (l : List ℕ). pairs_from (l ++ list) 0 all) back),
+    )

@@ -13,8 +13,7 @@ use Rattle.event.specs.Carrier.{carriers}
 use Rattle.group.specs.Request.{request_refusal, request_answer}
 use Rattle.group.specs.declared.Group.{Group}
 use borrow.Author.Rules.{rules}
-use Rattle.request.proofs.request.Statement.{statement}
-use Rattle.request.proofs.request.Tie as tie
+use Rattle.request.proofs.request.Goals as goal
 
 -- a request that neither 1 nor 2 refuses has its number in range
 ranged : (g : Group) (kind n : ℕ) → (request_refusal g kind n ≡ bad_kind → ⊥) → (request_refusal g kind n ≡ bad_number → ⊥) → n < carriers kind
@@ -27,22 +26,15 @@ ranged g kind n not1 not2 = ⊎_elim
     (either (leb (carriers kind) n)))
     (either (ltb LR kind))
 
-request-refusal-requires : tie.Need-request-refusal-requires
-request-refusal-requires c κs = search rules
+pub marked-requires : goal.marked-requires
+marked-requires c =
+    let asked = sym c.request_refusal-code.ensures ∙ c.if-code-eq0.true in
+    ranged c.args.group c.args.kind c.args.number (λ e. omega (arith, asked)) (λ e. omega (arith, asked))
 
-marked-requires : tie.Need-marked-requires
-marked-requires c κs =
-    let a = c.before.before.args in
-    let asked = sym c.before.request-refusal.ensures ∙ c.if1.true in
-    ranged a.group a.kind a.number (λ e. omega (arith, asked)) (λ e. omega (arith, asked))
-
-returns : tie.Need-returns
+pub returns-then-code-eq0 : goal.returns-then-code-eq0
 unfolding request_answer
-returns c = simp (sym c.before.before.request-refusal.ensures, c.before.if1.true, c.marked.ensures)
+returns-then-code-eq0 c = simp (sym c.request_refusal-code.ensures, c.if-code-eq0.true, c.marked.ensures)
 
-returns-2 : tie.Need-returns-2
+pub returns : goal.returns
 unfolding request_answer
-returns-2 c = simp (sym c.before.request-refusal.ensures, ne_eqb _ _ c.if1.false)
-
-pub request-spec : {M : Type 1} → statement M
-request-spec = tie.close (tie.spec request-refusal-requires marked-requires returns returns-2)
+returns c = simp (sym c.request_refusal-code.ensures, ne_eqb _ _ c.if-code-eq0.false)

@@ -1,2 +1,0 @@
--- Laws that the proofs of other crates cite.
-pub mod Lent
