@@ -39,39 +39,43 @@ through grants m b seen e h =
 
 pub returns-then-model-ge-MODELS : goal.returns-then-model-ge-MODELS
 returns-then-model-ge-MODELS c =
-    promised _ _ _ c.args.out.now _ (answer_number _ _ _ _ c.if-model-ge-MODELS.true)
+    let both = promised _ _ _ c.args.out.now _ (answer_number _ _ _ _ c.if-model-ge-MODELS.true) in
+    record { answered = both.0; left = both.1 }
 
 pub returns-then-not-good_store : goal.returns-then-not-good_store
 returns-then-not-good_store c =
-    promised _ _ _ c.args.out.now _ (answer_store _ c.args.model _ _ (omega (arith, c.if-model-ge-MODELS.false)) (sym c.good_store.ensures ∙ not-true _ (ap not c.if-not-good_store.true)))
+    let both = promised _ _ _ c.args.out.now _ (answer_store _ c.args.model _ _ (omega (arith, c.if-model-ge-MODELS.false)) (sym c.good_store.ensures ∙ c.if-not-good_store.true)) in
+    record { answered = both.0; left = both.1 }
 
 pub check-seen-requires : goal.check-seen-requires
-check-seen-requires c = ((omega (arith, c.if-model-ge-MODELS.false)), (sym c.good_store.ensures ∙ not-false _ (ap not c.if-not-good_store.false)))
+check-seen-requires c = ((omega (arith, c.if-model-ge-MODELS.false)), (sym c.good_store.ensures ∙ c.if-not-good_store.false))
 
 pub entry_fault-requires : goal.entry_fault-requires
-entry_fault-requires c = (sym c.good_store.ensures ∙ not-false _ (ap not c.if-not-good_store.false))
+entry_fault-requires c = (sym c.good_store.ensures ∙ c.if-not-good_store.false)
 
 pub returns-then-stop-lt-SHEETS : goal.returns-then-stop-lt-SHEETS
 returns-then-stop-lt-SHEETS c =
     let stop = ap (λ (r : Checked). r.stop) c.check-seen.ensures.0 in
-    promised _ _ _ c.args.out.now _
-    (answer_sheet c.args.grants.now c.args.model c.args.store.now (length c.args.out.now) ((omega (arith, c.if-model-ge-MODELS.false))) ((sym c.good_store.ensures ∙ not-false _ (ap not c.if-not-good_store.false))) (omega (arith, stop, c.if-stop-lt-SHEETS.true))
-    ∙ ap₂ Refused (sym (c.entry_fault.ensures ∙ ap (entry_fault c.args.store.now) stop)) (sym stop))
+    let both = promised _ _ _ c.args.out.now _
+    (answer_sheet c.args.grants.now c.args.model c.args.store.now (length c.args.out.now) ((omega (arith, c.if-model-ge-MODELS.false))) ((sym c.good_store.ensures ∙ c.if-not-good_store.false)) (omega (arith, stop, c.if-stop-lt-SHEETS.true))
+    ∙ ap₂ Refused (sym (c.entry_fault.ensures ∙ ap (entry_fault c.args.store.now) stop)) (sym stop)) in
+    record { answered = both.0; left = both.1 }
 
 pub returns-then-out-total : goal.returns-then-out-total
 returns-then-out-total c =
     let all = (through _ _ _ _ c.check-seen.ensures.0 c.if-stop-lt-SHEETS.false) in
-    promised _ _ _ c.args.out.now _ (answer_long c.args.grants.now c.args.model c.args.store.now (length c.args.out.now) ((omega (arith, c.if-model-ge-MODELS.false))) ((sym c.good_store.ensures ∙ not-false _ (ap not c.if-not-good_store.false))) (omega (arith, all.sound)) (omega (arith, all.summed, c.if-out-total.true)))
+    let both = promised _ _ _ c.args.out.now _ (answer_long c.args.grants.now c.args.model c.args.store.now (length c.args.out.now) ((omega (arith, c.if-model-ge-MODELS.false))) ((sym c.good_store.ensures ∙ c.if-not-good_store.false)) (omega (arith, all.sound)) (omega (arith, all.summed, c.if-out-total.true))) in
+    record { answered = both.0; left = both.1 }
 
 pub write_delivery-requires : goal.write_delivery-requires
 write_delivery-requires c =
     let all = (through _ _ _ _ c.check-seen.ensures.0 c.if-stop-lt-SHEETS.false) in
-    (record { known = (omega (arith, c.if-model-ge-MODELS.false)); taken = (sym c.good_store.ensures ∙ not-false _ (ap not c.if-not-good_store.false)); sound = all.sound }, all.counted, all.summed, c.if-out-total.false)
+    (record { known = (omega (arith, c.if-model-ge-MODELS.false)); taken = (sym c.good_store.ensures ∙ c.if-not-good_store.false); sound = all.sound }, all.counted, all.summed, c.if-out-total.false)
 
 pub returns : goal.returns
 returns c =
     let all = (through _ _ _ _ c.check-seen.ensures.0 c.if-stop-lt-SHEETS.false) in
     let fits = c.if-out-total.false in
     let done = promised c.args.grants.now c.args.model c.args.store.now c.args.out.now (Delivered c.check-seen.result.total)
-    (answer_delivered c.args.grants.now c.args.model c.args.store.now (length c.args.out.now) ((omega (arith, c.if-model-ge-MODELS.false))) ((sym c.good_store.ensures ∙ not-false _ (ap not c.if-not-good_store.false))) (omega (arith, all.sound)) (omega (arith, all.summed, fits)) ∙ ap Delivered (sym all.summed)) in
-    (done.0, c.write_delivery.ensures ∙ done.1)
+    (answer_delivered c.args.grants.now c.args.model c.args.store.now (length c.args.out.now) ((omega (arith, c.if-model-ge-MODELS.false))) ((sym c.good_store.ensures ∙ c.if-not-good_store.false)) (omega (arith, all.sound)) (omega (arith, all.summed, fits)) ∙ ap Delivered (sym all.summed)) in
+    record { answered = done.0; left = c.write_delivery.ensures ∙ done.1 }
