@@ -1,14 +1,10 @@
 -- The evidence is a tail of one strip: its length says where it starts, the verdict of which strip.
 use mathlib.Core.Path.{◌≡◌, refl, sym, ap, ap₂, ◌∙◌}
-use mathlib.Core.List.{List, [], ◌∷◌}
-use mathlib.Core.Logic.{⊎_elim}
+use mathlib.Core.List.{List}
 use Prim.Native.Nat.{ℕ, ◌-◌, ◌≤◌}
 use native.Mathlib.Omega.{arith}
 use lib.ListN.{length, drop, length-drop}
-use types.Run.{OneOf}
-use denote.Enum.Declared.{tag_of}
 use Rattle.base.proofs.First.{first_le}
-use Rattle.formula.specs.contracts.Verdict as verdict
 use Rattle.formula.specs.declared.Verdict.{Verdict}
 use Rattle.formula.specs.declared.Verdict.TheVariants.{Granted, Denied, Refused}
 use Rattle.formula.specs.declared.Moment.{Moment}
@@ -23,8 +19,8 @@ abbrev part : ℕ → ℕ → ℕ → Part
 part list first count = record { list = list; first = first; count = count }
 
 -- no grant, no evidence
-nothing : (v : Verdict) (m s e : List ℕ) → OneOf (1 ∷ 2 ∷ []) (tag_of verdict.the_type v) → e ≡ evidence_of v m s → part model_strip 0 (length e) ≡ evidence_part v m s
-nothing (Granted x) m s e h q = absurd (⊎_elim (λ e. omega arith) (λ e. omega arith) h)
+nothing : (v : Verdict) (m s e : List ℕ) → ((x : Moment) → v ≡ Granted x → ⊥) → e ≡ evidence_of v m s → part model_strip 0 (length e) ≡ evidence_part v m s
+nothing (Granted x) m s e h q = absurd (h x refl)
 nothing (Denied cause) m s e h q = ap (λ (l : List ℕ). part model_strip 0 (length l)) q
 nothing (Refused refusal place) m s e h q = ap (λ (l : List ℕ). part model_strip 0 (length l)) q
 
@@ -53,4 +49,23 @@ told v w x y m s e j g n q =
 pub returns-in_default : goal.returns-in_default
 returns-in_default c =
     rw (← c.judge.ensures.answer)
-    (nothing c.judge.result c.args.m.now c.args.s.now _ c.in_default.keys2 (c.evidence-part.ensures.0 ∙ ap (λ (v : Verdict). evidence_of v c.args.m.now c.args.s.now) (sym c.judge.ensures.answer)))
+    (nothing c.judge.result c.args.m.now c.args.s.now _ c.in_default.not-Granted
+    (c.evidence-part.ensures.0 ∙ ap (λ (v : Verdict). evidence_of v c.args.m.now c.args.s.now) (sym c.judge.ensures.answer)))
+
+pub overflow_sub-result : goal.overflow_sub-result
+overflow_sub-result c =
+    tail-le c.args.s.now _ _ (told _ _ _ _ c.args.m.now c.args.s.now _ c.judge.ensures.answer c.in-Granted.is c.in-Add.is c.evidence-part.ensures.0).1
+
+pub returns-in-Add : goal.returns-in-Add
+returns-in-Add c =
+    let k = told _ _ _ _ c.args.m.now c.args.s.now _ c.judge.ensures.answer c.in-Granted.is c.in-Add.is c.evidence-part.ensures.0 in
+    rw k.0 (tail-is sheet_strip c.args.s.now _ _ k.1)
+
+pub overflow_sub-result-in-Join : goal.overflow_sub-result-in-Join
+overflow_sub-result-in-Join c =
+    tail-le c.args.m.now _ _ (told _ _ _ _ c.args.m.now c.args.s.now _ c.judge.ensures.answer c.in-Granted.is c.in-Join.is c.evidence-part.ensures.0).1
+
+pub returns-in-Join : goal.returns-in-Join
+returns-in-Join c =
+    let k = told _ _ _ _ c.args.m.now c.args.s.now _ c.judge.ensures.answer c.in-Granted.is c.in-Join.is c.evidence-part.ensures.0 in
+    rw k.0 (tail-is model_strip c.args.m.now _ _ k.1)
