@@ -7,15 +7,13 @@ ghost use Rattle.crossing.specs.Part.{records_part};
 use book::{BookRead, BookWritten};
 use crossing::part::Part;
 
-#[unsafe(no_mangle)]
-pub extern "C" fn ferrulebee_book_read(bytes: &[u8], list: &mut [u32]) -> BookRead
+pub fn ferrulebee_book_read(bytes: &[u8], list: &mut [u32]) -> BookRead
     ensures { (result ≡ book_read bytes.now (length list.old)) × (list.new ≡ list_read bytes.now list.old) }
 {
     book::read(bytes, list)
 }
 
-#[unsafe(no_mangle)]
-pub extern "C" fn ferrulebee_book_write(
+pub fn ferrulebee_book_write(
     ticks: u32,
     number: u32,
     words: &[u32],
@@ -26,8 +24,7 @@ pub extern "C" fn ferrulebee_book_write(
     book::write(ticks, number, words, buffer)
 }
 
-#[unsafe(no_mangle)]
-pub extern "C" fn ferrulebee_tick_part(words: &[u32], tick: u32) -> Part
+pub fn ferrulebee_tick_part(words: &[u32], tick: u32) -> Part
     ensures { result ≡ records_part words.now tick }
 {
     crossing::part::records(words, tick)

@@ -6,8 +6,7 @@ ghost use Rattle.crossing.specs.Delivered.{delivery_numbers};
 use crossing::numbers::Delivered;
 use group::Group;
 
-#[unsafe(no_mangle)]
-pub extern "C" fn ferrulebee_deliver(
+pub fn ferrulebee_deliver(
     group: Group,
     model: u32,
     sheets: &[u8],

@@ -12,44 +12,38 @@ use crossing::numbers::Read;
 use group::{Answer, CountAnswer, Group};
 use station::MaskAnswer;
 
-#[unsafe(no_mangle)]
-pub extern "C" fn ferrulebee_fresh(number: u32) -> Answer
+pub fn ferrulebee_fresh(number: u32) -> Answer
     ensures { result ≡ fresh_answer number }
 {
     Group::fresh(number)
 }
 
-#[unsafe(no_mangle)]
-pub extern "C" fn ferrulebee_request(group: Group, kind: u32, number: u32) -> Answer
+pub fn ferrulebee_request(group: Group, kind: u32, number: u32) -> Answer
     ensures { result ≡ request_answer group kind number }
 {
     request::request(group, kind, number)
 }
 
-#[unsafe(no_mangle)]
-pub extern "C" fn ferrulebee_close(group: Group) -> Answer
+pub fn ferrulebee_close(group: Group) -> Answer
     ensures { result ≡ close_answer group }
 {
     close::close(group)
 }
 
-#[unsafe(no_mangle)]
-pub extern "C" fn ferrulebee_read(group: Group, model: u32, sheet: u32) -> Read
+pub fn ferrulebee_read(group: Group, model: u32, sheet: u32) -> Read
     ensures { result ≡ read_numbers (read_answer group model sheet) }
 {
     crossing::numbers::of_read(group.read(model, sheet))
 }
 
-#[unsafe(no_mangle)]
-pub extern "C" fn ferrulebee_models(group: Group, sheet: u32) -> CountAnswer
+pub fn ferrulebee_models(group: Group, sheet: u32) -> CountAnswer
     ensures { result ≡ count_answer group sheet }
 {
     group.models(sheet)
 }
 
 // A request on a group lent and marked where it stands; a refusal leaves it as it was.
-#[unsafe(no_mangle)]
-pub extern "C" fn ferrulebee_request_at(g: &mut Group, kind: u32, number: u32) -> u32
+pub fn ferrulebee_request_at(g: &mut Group, kind: u32, number: u32) -> u32
     ensures { (result ≡ (request_answer g.old kind number).code) × (g.new ≡ (request_answer g.old kind number).group) }
 {
     let asked = request::request(*g, kind, number);
@@ -58,8 +52,7 @@ pub extern "C" fn ferrulebee_request_at(g: &mut Group, kind: u32, number: u32) -
 }
 
 // A station's groups side by side: the mask of the positions that grant.
-#[unsafe(no_mangle)]
-pub extern "C" fn ferrulebee_mask(gs: &[Group], model: u32, sheet: u32) -> MaskAnswer
+pub fn ferrulebee_mask(gs: &[Group], model: u32, sheet: u32) -> MaskAnswer
     ensures { result ≡ mask_answer gs.now model sheet }
 {
     station::mask(gs, model, sheet)

@@ -2,16 +2,15 @@
 // Here the judge: plain numbers and slices in, one number out.
 #![tactic(auto)]
 
-mod book_calls;
-mod deliver;
-mod gate;
-mod strips;
+pub mod book_calls;
+pub mod deliver;
+pub mod gate;
+pub mod strips;
 
 ghost use Rattle.std.specs.Prelude.{◌≡◌};
 ghost use Rattle.loader.specs.Judge.{packed, judged_from};
 
-#[unsafe(no_mangle)]
-pub extern "C" fn judge(m: &[u8], s: &[u8], now: u32) -> u64
+pub fn judge(m: &[u8], s: &[u8], now: u32) -> u64
     ensures { result ≡ packed (judged_from m.now s.now now) }
 {
     loader::pack(loader::judged(m, s, now))

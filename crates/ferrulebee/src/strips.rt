@@ -7,15 +7,13 @@ ghost use Rattle.span.specs.Answer.{spans_answer, list_after};
 use crossing::part::Part;
 use span::SpansAnswer;
 
-#[unsafe(no_mangle)]
-pub extern "C" fn ferrulebee_evidence<'a>(m: &'a [u32], s: &'a [u32], now: u32) -> Part
+pub fn ferrulebee_evidence<'a>(m: &'a [u32], s: &'a [u32], now: u32) -> Part
     ensures { result ≡ evidence_part (judged_by m.now s.now now) m.now s.now }
 {
     crossing::part::evidence(m, s, now)
 }
 
-#[unsafe(no_mangle)]
-pub extern "C" fn ferrulebee_spans(m: &[u32], s: &[u32], now: u32, list: &mut [u32]) -> SpansAnswer
+pub fn ferrulebee_spans(m: &[u32], s: &[u32], now: u32, list: &mut [u32]) -> SpansAnswer
     ensures { (result ≡ spans_answer m.now s.now now (length list.old)) × (list.new ≡ list_after m.now s.now now list.old) }
 {
     span::spans(m, s, now, list)
