@@ -1,2 +1,3 @@
 -- What the promises of this crate's calls fix.
 pub mod Once
+mod Powers

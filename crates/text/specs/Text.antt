@@ -1,6 +1,6 @@
 -- Text added to a buffer.
 use Rattle.std.specs.Prelude.{◌≡◌, Bool, cond, List, ℕ, ◌+◌, ltb, length}
-use Rattle.io.specs.Digits.{last_digits, IsDigitCount}
+use Rattle.text.specs.Digits.{last_digits, IsDigitCount}
 use Rattle.wire.specs.Put.{put}
 
 -- there is no room for the text from `at` on
@@ -16,6 +16,6 @@ added_end out at text = cond (full out at text) at (at + length text)
 -- the decimal digits of n, as few as hold it, were added to `was`
 pub record AddsDecimal (was : List ℕ) (at n : ℕ) (now : List ℕ) (end : ℕ) : Type 0 where
   pub places : ℕ
-  pub fewest : IsDigitCount 10 1 n places
-  pub buffer : now ≡ added was at (last_digits 10 places n)
-  pub behind : end ≡ added_end was at (last_digits 10 places n)
+  pub fewest : IsDigitCount n places
+  pub buffer : now ≡ added was at (last_digits places n)
+  pub behind : end ≡ added_end was at (last_digits places n)

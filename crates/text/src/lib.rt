@@ -1,8 +1,12 @@
 // Text in a lent buffer: bytes and decimal numbers, one behind the other. What doesn't fit is left out whole.
 #![tactic(auto)]
 
-ghost use Rattle.std.specs.Prelude.{◌≡◌};
+ghost use Rattle.std.specs.Prelude.{◌≡◌, ◌+◌, ◌<◌, ◌≤◌, length, take};
+ghost use Rattle.text.specs.Digits.{last_digits, IsDigitCount};
 ghost use Rattle.text.specs.Text.{added, added_end, AddsDecimal};
+
+// The digits of the largest number.
+const DIGITS: usize = 20;
 
 // Adds the text at place `at` and answers the place behind it, or `at` where it doesn't fit.
 pub fn add(out: &mut [u8], at: usize, text: &[u8]) -> usize
@@ -23,7 +27,53 @@ pub fn add(out: &mut [u8], at: usize, text: &[u8]) -> usize
 pub fn add_decimal(out: &mut [u8], at: usize, n: u64) -> usize
     ensures { AddsDecimal out.old at n out.new result }
 {
-    let mut digits = [0u8; 20];
-    let k = io::decimal(n, &mut digits);
+    let mut digits = [0u8; DIGITS];
+    let k = decimal(n, &mut digits);
     add(out, at, &digits[..k])
+}
+
+// Puts a number's digits at the front of `out`, as few as it takes, and answers how many there are.
+fn decimal(n: u64, out: &mut [u8; DIGITS]) -> usize
+    ensures room { result ≤ 20 }
+    ensures count { IsDigitCount n result }
+    ensures digits { take result out.new ≡ last_digits result n }
+{
+    let k = digit_count(n);
+    write_digits(n, k, out);
+    k
+}
+
+// How many digits a number takes.
+fn digit_count(n: u64) -> usize
+    ensures { IsDigitCount n result }
+{
+    let mut k = 1;
+    let mut rest = n / 10;
+    while rest > 0 {
+        rest /= 10;
+        k += 1;
+    }
+    k
+}
+
+// Puts the last k digits of a number at the front of `out`.
+fn write_digits(n: u64, k: usize, out: &mut [u8])
+    requires { k ≤ length out.old }
+    ensures { take k out.new ≡ last_digits k n }
+{
+    let mut i = k;
+    let mut rest = n;
+    while i > 0 {
+        i -= 1;
+        out[i] = digit(rest % 10);
+        rest /= 10;
+    }
+}
+
+// A digit in ASCII.
+fn digit(d: u64) -> u8
+    requires { d < 10 }
+    ensures { result ≡ 48 + d }
+{
+    b'0' + d as u8
 }
