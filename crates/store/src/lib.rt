@@ -42,6 +42,7 @@ pub fn length_of(store: &[u8], sheet: u32) -> u64
 }
 
 // 0, or the refusal that the sheet's entry calls for.
+#[tactic(auto, using(crate::proofs::Store::good))]
 pub fn entry_fault(store: &[u8], sheet: u32) -> u32
     requires { good_store store.now ≡ true }
     ensures { result ≡ entry_fault store.now sheet }
