@@ -1,7 +1,7 @@
 // The commands by their names, and the words that each one takes.
 
 // A command: its name, how many words its line has, which of them are its two numbers (0: none is), and whether the last is a file name. A request by its letters has its kind for the first number.
-#[derive(Drop)]
+#[derive(Clone, Copy)]
 pub struct Command {
     pub name: u32,
     pub words: usize,

@@ -1,7 +1,7 @@
 // Standard input, taken a buffer at a time.
 ghost use Rattle.std.specs.Prelude.{◌≤◌, length};
 
-use libc::STDIN_FILENO;
+use std::io::Read;
 
 // The bytes of the buffer.
 pub const BUFFER: usize = 65536;
@@ -9,7 +9,7 @@ pub const BUFFER: usize = 65536;
 pub type Buffer = [u8; BUFFER];
 
 // The bytes at hand, from `at` to `end` of the buffer, and whether they are the last.
-#[derive(Drop)]
+#[derive(Clone, Copy)]
 pub struct Input {
     pub at: usize,
     pub end: usize,
@@ -64,13 +64,13 @@ fn to_front(buffer: &mut [u8], at: usize, end: usize) -> usize
 }
 
 // Waits for more input behind the line at hand; none is the end of it, and the end stays the end.
-pub fn more(buffer: &mut [u8], input: Input) -> Input {
+pub fn more<R: Read>(reader: &mut R, buffer: &mut [u8], input: Input) -> Input {
     if input.over {
         return input;
     }
     let had = to_front(&mut *buffer, input.at, input.end);
-    let got = libc::read(STDIN_FILENO, &mut buffer[had..]);
-    let came = io::count(got, &buffer[had..]);
+    // a read that fails counts as the end
+    let came = reader.read(&mut buffer[had..]).unwrap_or(0);
     Input {
         at: 0,
         end: had + came,

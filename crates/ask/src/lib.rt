@@ -10,7 +10,7 @@ use input::{Buffer, Input};
 use line::{Line, Number};
 
 // A command and its numbers; those of a request are its kind and its carrier. What can't be taken has the reason as its first number.
-#[derive(Drop)]
+#[derive(Clone, Copy)]
 pub struct Asked {
     pub name: u32,
     pub a: u32,
@@ -162,7 +162,7 @@ fn of_line(bytes: &[u8], line: Line) -> Asked {
 }
 
 // What is heard: the input behind a line, where that line starts, and what it asks for.
-#[derive(Drop)]
+#[derive(Clone, Copy)]
 pub struct Heard {
     pub input: Input,
     pub from: usize,

@@ -7,7 +7,7 @@ pub const LINE: usize = 256;
 pub const EDGES: usize = 10;
 
 // The line at the front of some bytes: its length, whether its line feed stands behind it, how many words it has, and where they begin and end in turns. Words from the fifth on count as one.
-#[derive(Drop)]
+#[derive(Clone, Copy)]
 pub struct Line {
     pub length: usize,
     pub whole: bool,
@@ -75,7 +75,7 @@ pub fn word(bytes: &[u8], line: Line, k: usize) -> &[u8] {
 }
 
 // A number, or the reason why a word is none.
-#[derive(Drop)]
+#[derive(Clone, Copy)]
 pub struct Number {
     pub reason: u32,
     pub value: u32,
