@@ -4,29 +4,46 @@
 use formula::{Moment, Verdict};
 use report::page::{Out, Page};
 use report::{Book, Words, page};
+use std::io::Read;
 use strip::Side;
 
 // The line of a granted pair.
-fn granted(out: &mut Out, page: Page, model: u32, sheet: u32, moment: &[u8], tick: u32) -> Page {
+fn granted<P: Print>(
+    rt: &P,
+    out: &mut Out,
+    page: Page,
+    model: u32,
+    sheet: u32,
+    moment: &[u8],
+    tick: u32,
+) -> Page {
     let page = page::put(&mut *out, page, b"", model);
     let page = page::spaced(&mut *out, page, sheet);
     let page = page::put(&mut *out, page, moment, tick);
-    page::end_counted(out, page)
+    page::end_counted(rt, out, page)
 }
 
 // The line of a pair that is granted; any other pair is skipped.
-fn pair(out: &mut Out, page: Page, model: u32, sheet: u32, verdict: Verdict) -> Page {
+fn pair<P: Print>(
+    rt: &P,
+    out: &mut Out,
+    page: Page,
+    model: u32,
+    sheet: u32,
+    verdict: Verdict,
+) -> Page {
     let Verdict::Granted(moment) = verdict else {
         return page;
     };
     match moment {
-        Moment::Add(tick) => granted(out, page, model, sheet, b" add ", tick),
-        Moment::Join(tick) => granted(out, page, model, sheet, b" join ", tick),
+        Moment::Add(tick) => granted(rt, out, page, model, sheet, b" add ", tick),
+        Moment::Join(tick) => granted(rt, out, page, model, sheet, b" join ", tick),
     }
 }
 
 // The lines of one model.
-fn of_model(
+fn of_model<P: Print>(
+    rt: &P,
     out: &mut Out,
     mut page: Page,
     model: u32,
@@ -39,13 +56,13 @@ fn of_model(
         let s = sheet as usize;
         let other = report::part(strips, ends[s], ends[s + 1]);
         let verdict = judge::judge(strip, other, now);
-        page = pair(&mut *out, page, model, sheet, verdict);
+        page = pair(rt, &mut *out, page, model, sheet, verdict);
     }
     page
 }
 
 // The lines of all models, by model then sheet.
-fn list_pairs(out: &mut Out, mut page: Page, words: &[u32], now: u32) -> Page {
+fn list_pairs<P: Print>(rt: &P, out: &mut Out, mut page: Page, words: &[u32], now: u32) -> Page {
     let mut strips = [0u32; rules::EVENTS];
     let mut ends = [0usize; report::ENDS];
     report::gather_sheets(words, &mut strips, &mut ends);
@@ -53,6 +70,7 @@ fn list_pairs(out: &mut Out, mut page: Page, words: &[u32], now: u32) -> Page {
         let mut strip = [0u32; rules::EVENTS];
         let n = gather::gather(words, Side::Model, model, &mut strip, 0);
         page = of_model(
+            rt,
             &mut *out,
             page,
             model,
@@ -66,25 +84,25 @@ fn list_pairs(out: &mut Out, mut page: Page, words: &[u32], now: u32) -> Page {
 }
 
 // The listing of a book that was read.
-fn listed(out: &mut Out, book: Book, words: &Words) -> Page {
+fn listed<P: Print>(rt: &P, out: &mut Out, book: Book, words: &Words) -> Page {
     let words = report::part(words, 0, book.records);
-    let page = report::header(&mut *out, book.number, book.ticks, words.len());
-    let page = list_pairs(&mut *out, page, words, book.ticks);
-    report::footer(out, page, b"granted ")
+    let page = report::header(rt, &mut *out, book.number, book.ticks, words.len());
+    let page = list_pairs(rt, &mut *out, page, words, book.ticks);
+    report::footer(rt, out, page, b"granted ")
 }
 
-// The listing of the book that standard input has, or its refusal.
-fn listing(out: &mut Out) -> Page {
+// The listing of the book that the input has, or its refusal.
+fn listing<P: Print, R: Read>(rt: &P, reader: &mut R, out: &mut Out) -> Page {
     let mut words = [0u32; rules::EVENTS];
-    let book = report::read_book(&mut words);
+    let book = report::read_book(reader, &mut words);
     if book.code != 0 {
-        return report::refused(out, book.code, book.place);
+        return report::refused(rt, out, book.code, book.place);
     }
-    listed(out, book, &words)
+    listed(rt, out, book, &words)
 }
 
-fn main() {
+fn main(rt: HostRuntime) {
     let mut out = [0u8; page::OUT];
-    let page = listing(&mut out);
-    page::flush(&out, page);
+    let page = listing(&rt, &mut rt.stdin(), &mut out);
+    page::flush(&rt, &out, page);
 }

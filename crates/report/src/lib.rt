@@ -3,8 +3,10 @@
 
 pub mod page;
 
-use libc::STDIN_FILENO;
+ghost use Rattle.std.specs.Prelude.{◌≤◌, length};
+
 use page::{Out, Page};
+use std::io::Read;
 use strip::Side;
 
 // One byte more than the longest book, so that a longer input is refused as too long.
@@ -16,7 +18,7 @@ pub const ENDS: usize = 257;
 pub type Words = [u32; rules::EVENTS];
 
 // What was read: a refusal's number and place, or 0 with the book's group, ticks and records.
-#[derive(Drop)]
+#[derive(Clone, Copy)]
 pub struct Book {
     pub code: u32,
     pub place: u32,
@@ -33,10 +35,25 @@ fn records(length: usize) -> usize {
     (length - rules::BOOK_HEADER) / 4
 }
 
-// Reads a book from standard input; its words go to the front of the list.
-pub fn read_book(words: &mut Words) -> Book {
+// Reads until the buffer is full, the input ends or a read fails, and answers how many bytes stand at the buffer's front.
+fn read_full<R: Read>(reader: &mut R, buffer: &mut [u8]) -> usize
+    ensures { result ≤ length buffer.new }
+{
+    let mut done: usize = 0;
+    while done < buffer.len() {
+        let came = reader.read(&mut buffer[done..]).unwrap_or(0);
+        if came == 0 {
+            break;
+        }
+        done += came;
+    }
+    done
+}
+
+// Reads a book to the end of the input; its words go to the front of the list.
+pub fn read_book<R: Read>(reader: &mut R, words: &mut Words) -> Book {
     let mut input = [0u8; INPUT];
-    let length = io::read_full(STDIN_FILENO, &mut input);
+    let length = read_full(reader, &mut input);
     let read = book::read(&input[..length], words);
     Book {
         code: read.code,
@@ -68,25 +85,25 @@ pub fn part(list: &[u32], from: usize, to: usize) -> &[u32] {
 }
 
 // "refused 21", or "refused 25 at 1" where there is a place.
-pub fn refused(out: &mut Out, code: u32, place: u32) -> Page {
+pub fn refused<P: Print>(rt: &P, out: &mut Out, code: u32, place: u32) -> Page {
     let page = page::put(&mut *out, page::empty(), b"refused ", code);
     if (code < rules::BAD_RECORD) | (code > rules::ILL_FORMED) {
-        return page::end(out, page);
+        return page::end(rt, out, page);
     }
     let page = page::put(&mut *out, page, b" at ", place);
-    page::end(out, page)
+    page::end(rt, out, page)
 }
 
 // The first line.
-pub fn header(out: &mut Out, number: u32, ticks: u32, records: usize) -> Page {
+pub fn header<P: Print>(rt: &P, out: &mut Out, number: u32, ticks: u32, records: usize) -> Page {
     let page = page::put(&mut *out, page::empty(), b"group ", number);
     let page = page::put(&mut *out, page, b" ticks ", ticks);
     let page = page::put(&mut *out, page, b" records ", (records % 4294967296) as u32);
-    page::end(out, page)
+    page::end(rt, out, page)
 }
 
 // The last line counts the others.
-pub fn footer(out: &mut Out, page: Page, name: &[u8]) -> Page {
+pub fn footer<P: Print>(rt: &P, out: &mut Out, page: Page, name: &[u8]) -> Page {
     let page = page::put(&mut *out, page, name, page.lines);
-    page::end(out, page)
+    page::end(rt, out, page)
 }

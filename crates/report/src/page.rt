@@ -1,12 +1,10 @@
 // A page of output: lines gather in a buffer, which is written out when it is nearly full and at the end.
-use libc::STDOUT_FILENO;
-
 // The buffer. It is lent as the array that it is: a slice would cost the prover twice as much.
 pub const OUT: usize = 65536;
 
 pub type Out = [u8; OUT];
 
-#[derive(Drop)]
+#[derive(Clone, Copy)]
 pub struct Page {
     // the bytes in the buffer
     pub at: usize,
@@ -21,21 +19,21 @@ pub fn empty() -> Page {
     Page { at: 0, lines: 0 }
 }
 
-// Writes out what is in the buffer.
-pub fn flush(out: &Out, mut page: Page) -> Page {
+// Writes out what is in the buffer. A write that fails is passed over.
+pub fn flush<P: Print>(rt: &P, out: &Out, mut page: Page) -> Page {
     let text = &out[..];
     let at = page.at;
     if at <= text.len() {
-        io::write_all(STDOUT_FILENO, &text[0..at]);
+        let _ = rt.write_all(&text[0..at]);
     }
     page.at = 0;
     page
 }
 
 // A page with room for a line.
-fn roomy(out: &Out, page: Page) -> Page {
+fn roomy<P: Print>(rt: &P, out: &Out, page: Page) -> Page {
     if page.at > OUT - LINE {
-        return flush(out, page);
+        return flush(rt, out, page);
     }
     page
 }
@@ -53,14 +51,14 @@ pub fn spaced(out: &mut Out, page: Page, number: u32) -> Page {
 }
 
 // Ends a line.
-pub fn end(out: &mut Out, mut page: Page) -> Page {
+pub fn end<P: Print>(rt: &P, out: &mut Out, mut page: Page) -> Page {
     page.at = text::add(&mut *out, page.at, b"\n");
-    roomy(out, page)
+    roomy(rt, out, page)
 }
 
 // Ends a line that is counted.
-pub fn end_counted(out: &mut Out, page: Page) -> Page {
-    let mut page = end(out, page);
+pub fn end_counted<P: Print>(rt: &P, out: &mut Out, page: Page) -> Page {
+    let mut page = end(rt, out, page);
     page.lines = std::num::wrapping_add_u32(page.lines, 1);
     page
 }

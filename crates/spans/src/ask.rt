@@ -1,7 +1,9 @@
 // Which models and sheets the arguments ask for: all, one model's, or one pair.
 
+use std::env::{Env, FillError};
+
 // Models and sheets from a first number to before an end. Arguments that can't be taken ask for nothing.
-#[derive(Drop)]
+#[derive(Clone, Copy)]
 pub struct Asked {
     pub taken: bool,
     pub models: u32,
@@ -34,31 +36,16 @@ fn decimal(word: &[u8], limit: u32) -> u32 {
     value as u32
 }
 
-// Argument i as a number below a limit; the limit where it is none.
-fn argument(i: usize, limit: u32) -> u32 {
-    let mut word = [0u8; DIGITS];
-    let n = os::arg(i, &mut word);
-    if os::errno() != 0 {
-        return limit;
-    }
-    decimal(&word[..n], limit)
-}
-
-// One number, or all below its limit where there is no such argument.
-#[derive(Drop)]
+// Numbers from a first to before an end.
+#[derive(Clone, Copy)]
 struct Range {
     first: u32,
     end: u32,
 }
 
-fn one_or_all(i: usize, count: usize, limit: u32) -> Range {
-    if i >= count {
-        return Range {
-            first: 0,
-            end: limit,
-        };
-    }
-    let first = argument(i, limit);
+// The one number that a word is; none where it is no number below the limit.
+fn one(word: &[u8], limit: u32) -> Range {
+    let first = decimal(word, limit);
     if first >= limit {
         return Range { first: 0, end: 0 };
     }
@@ -68,12 +55,30 @@ fn one_or_all(i: usize, count: usize, limit: u32) -> Range {
     }
 }
 
-pub fn arguments() -> Asked {
-    let count = os::arg_count();
-    let models = one_or_all(1, count, rules::MODELS);
-    let sheets = one_or_all(2, count, rules::SHEETS);
+// Argument i as one number below a limit, or all below it where there is no such argument.
+fn one_or_all<E: Env>(rt: &E, i: usize, limit: u32) -> Range {
+    let mut word = [0u8; DIGITS];
+    match rt.arg(i, &mut word) {
+        Ok(n) => one(&word[..n], limit),
+        Err(FillError::TooLong) => Range { first: 0, end: 0 },
+        Err(FillError::NotPresent) => Range {
+            first: 0,
+            end: limit,
+        },
+    }
+}
+
+// Whether the program was started with so many arguments or more.
+fn has<E: Env>(rt: &E, i: usize) -> bool {
+    let mut word = [0u8; 1];
+    !matches!(rt.arg(i, &mut word), Err(FillError::NotPresent))
+}
+
+pub fn arguments<E: Env>(rt: &E) -> Asked {
+    let models = one_or_all(rt, 1, rules::MODELS);
+    let sheets = one_or_all(rt, 2, rules::SHEETS);
     Asked {
-        taken: (count <= 3) & (models.first < models.end) & (sheets.first < sheets.end),
+        taken: !has(rt, 3) & (models.first < models.end) & (sheets.first < sheets.end),
         models: models.first,
         models_end: models.end,
         sheets: sheets.first,

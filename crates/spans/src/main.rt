@@ -7,9 +7,9 @@ ghost use Rattle.std.specs.Prelude.{◌/◌, ◌≤◌};
 ghost use Rattle.rules.specs.Ranges.{events};
 
 use ask::Asked;
-use libc::STDOUT_FILENO;
 use report::page::{Out, Page};
 use report::{Book, Words, page};
+use std::io::Read;
 use strip::Side;
 
 // The two strips of a pair have no more words than a book has records, and that many numbers are always enough for their spans.
@@ -23,12 +23,20 @@ fn within(end: u32, limit: u32) -> u32
 }
 
 // The line of a span.
-fn line(out: &mut Out, page: Page, model: u32, sheet: u32, first: u32, last: u32) -> Page {
+fn line<P: Print>(
+    rt: &P,
+    out: &mut Out,
+    page: Page,
+    model: u32,
+    sheet: u32,
+    first: u32,
+    last: u32,
+) -> Page {
     let page = page::put(&mut *out, page, b"", model);
     let page = page::spaced(&mut *out, page, sheet);
     let page = page::spaced(&mut *out, page, first);
     let page = page::spaced(&mut *out, page, last);
-    page::end_counted(out, page)
+    page::end_counted(rt, out, page)
 }
 
 // How many pairs of the list are spans: as many as were counted, and never more than it has.
@@ -42,7 +50,8 @@ fn pairs(count: u32) -> usize
 }
 
 // The lines of one pair: the first `count` spans of the list.
-fn lines(
+fn lines<P: Print>(
+    rt: &P,
     out: &mut Out,
     mut page: Page,
     model: u32,
@@ -51,13 +60,22 @@ fn lines(
     count: u32,
 ) -> Page {
     for k in 0..pairs(count) {
-        page = line(&mut *out, page, model, sheet, list[2 * k], list[2 * k + 1]);
+        page = line(
+            rt,
+            &mut *out,
+            page,
+            model,
+            sheet,
+            list[2 * k],
+            list[2 * k + 1],
+        );
     }
     page
 }
 
 // The lines of one model, by sheet.
-fn of_model(
+fn of_model<P: Print>(
+    rt: &P,
     out: &mut Out,
     mut page: Page,
     asked: Asked,
@@ -72,13 +90,20 @@ fn of_model(
         let s = sheet as usize;
         let other = report::part(strips, ends[s], ends[s + 1]);
         let told = span::spans(strip, other, now, &mut *list);
-        page = lines(&mut *out, page, model, sheet, &*list, told.count);
+        page = lines(rt, &mut *out, page, model, sheet, &*list, told.count);
     }
     page
 }
 
 // The lines of the models that were asked for, by model.
-fn list_spans(out: &mut Out, mut page: Page, asked: Asked, words: &[u32], now: u32) -> Page {
+fn list_spans<P: Print>(
+    rt: &P,
+    out: &mut Out,
+    mut page: Page,
+    asked: Asked,
+    words: &[u32],
+    now: u32,
+) -> Page {
     let mut strips = [0u32; rules::EVENTS];
     let mut ends = [0usize; report::ENDS];
     let mut list = [0u32; LIST];
@@ -87,6 +112,7 @@ fn list_spans(out: &mut Out, mut page: Page, asked: Asked, words: &[u32], now: u
         let mut strip = [0u32; rules::EVENTS];
         let n = gather::gather(words, Side::Model, model, &mut strip, 0);
         page = of_model(
+            rt,
             &mut *out,
             page,
             asked,
@@ -102,37 +128,36 @@ fn list_spans(out: &mut Out, mut page: Page, asked: Asked, words: &[u32], now: u
 }
 
 // The spans of a book that was read.
-fn listed(out: &mut Out, asked: Asked, book: Book, words: &Words) -> Page {
+fn listed<P: Print>(rt: &P, out: &mut Out, asked: Asked, book: Book, words: &Words) -> Page {
     let words = report::part(words, 0, book.records);
-    let page = report::header(&mut *out, book.number, book.ticks, words.len());
-    let page = list_spans(&mut *out, page, asked, words, book.ticks);
-    report::footer(out, page, b"spans ")
+    let page = report::header(rt, &mut *out, book.number, book.ticks, words.len());
+    let page = list_spans(rt, &mut *out, page, asked, words, book.ticks);
+    report::footer(rt, out, page, b"spans ")
 }
 
-// The spans of the book that standard input has, or its refusal.
-fn spans(out: &mut Out, asked: Asked) -> Page {
+// The spans of the book that the input has, or its refusal.
+fn spans<P: Print, R: Read>(rt: &P, reader: &mut R, out: &mut Out, asked: Asked) -> Page {
     let mut words = [0u32; rules::EVENTS];
-    let book = report::read_book(&mut words);
+    let book = report::read_book(reader, &mut words);
     if book.code != 0 {
-        return report::refused(out, book.code, book.place);
+        return report::refused(rt, out, book.code, book.place);
     }
-    listed(out, asked, book, &words)
+    listed(rt, out, asked, book, &words)
 }
 
-fn usage() {
-    io::write_all(
-        STDOUT_FILENO,
+fn usage<P: Print>(rt: &P) {
+    let _ = rt.write_all(
         b"usage: spans [MODEL [SHEET]] < BOOK, with MODEL 0 to 63 and SHEET 0 to 255\n",
     );
 }
 
-fn main() {
+fn main(rt: HostRuntime) {
     let mut out = [0u8; page::OUT];
-    let asked = ask::arguments();
+    let asked = ask::arguments(&rt);
     if !asked.taken {
-        usage();
+        usage(&rt);
         return;
     }
-    let page = spans(&mut out, asked);
-    page::flush(&out, page);
+    let page = spans(&rt, &mut rt.stdin(), &mut out, asked);
+    page::flush(&rt, &out, page);
 }
