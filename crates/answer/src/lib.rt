@@ -3,7 +3,6 @@
 
 use ask::line;
 use group::{CountAnswer, ReadAnswer};
-use libc::STDOUT_FILENO;
 
 // The buffer. It is lent as the array that it is: a slice would cost the prover twice as much.
 pub const OUT: usize = 65536;
@@ -13,15 +12,15 @@ pub type Out = [u8; OUT];
 // No answer is longer.
 const ANSWER: usize = 2048;
 
-// Writes out what is in the buffer.
-pub fn flush(out: &Out, at: usize) {
-    io::write_all(STDOUT_FILENO, line::part(out, 0, at));
+// Writes out what is in the buffer. A write that fails is passed over.
+pub fn flush<P: Print>(rt: &P, out: &Out, at: usize) {
+    let _ = rt.write_all(line::part(out, 0, at));
 }
 
 // The place for the next answer: the buffer's start again where there is no room for one.
-pub fn room(out: &Out, at: usize) -> usize {
+pub fn room<P: Print>(rt: &P, out: &Out, at: usize) -> usize {
     if at > OUT - ANSWER {
-        flush(out, at);
+        flush(rt, out, at);
         return 0;
     }
     at
@@ -132,14 +131,14 @@ help                these lines
 }
 
 // What the program prints where it is started with an argument.
-pub fn usage(out: &mut Out) {
+pub fn usage<P: Print>(rt: &P, out: &mut Out) {
     let at = text::add(
         &mut *out,
         0,
         b"keeper: one command a line on standard input, one answer a line\n",
     );
     let at = help(&mut *out, at);
-    flush(out, at);
+    flush(rt, out, at);
 }
 
 // Why a line can't be taken: the reasons in the order of their numbers, and the edges between them.

@@ -4,9 +4,10 @@ use ask::input::{Buffer, Input};
 use ask::{Asked, input, line};
 use group::Answer;
 use kept::Kept;
+use std::io::Read;
 
 // The input at hand, where its last line started and what that asked for; the place for the next answer; how many of the group's accepted events are kept; the store's length.
-#[derive(Drop)]
+#[derive(Clone, Copy)]
 pub struct Console {
     pub input: Input,
     pub from: usize,
@@ -17,7 +18,7 @@ pub struct Console {
 }
 
 // The group, as the last call's answer has it, and the console.
-#[derive(Drop)]
+#[derive(Clone, Copy)]
 pub struct Done {
     pub last: Answer,
     pub console: Console,
@@ -36,7 +37,13 @@ pub fn started() -> Console {
 }
 
 // Hears the line at hand. Where there is none, what was answered is written out, and then more input is waited for.
-pub fn hear(mut c: Console, buffer: &mut Buffer, out: &Out) -> Console {
+pub fn hear<P: Print, R: Read>(
+    rt: &P,
+    reader: &mut R,
+    mut c: Console,
+    buffer: &mut Buffer,
+    out: &Out,
+) -> Console {
     let input = c.input;
     let heard = ask::hear(input, &*buffer);
     let asked = heard.asked;
@@ -44,12 +51,12 @@ pub fn hear(mut c: Console, buffer: &mut Buffer, out: &Out) -> Console {
     c.asked = asked;
     c.from = heard.from;
     if asked.name == ask::MORE {
-        answer::flush(out, c.at);
+        answer::flush(rt, out, c.at);
         c.at = 0;
-        c.input = input::more(buffer, input);
+        c.input = input::more(reader, buffer, input);
         return c;
     }
-    c.at = answer::room(out, c.at);
+    c.at = answer::room(rt, out, c.at);
     c.input = input;
     c
 }

@@ -12,6 +12,9 @@ use ask::input::Buffer;
 use ask::{Asked, input};
 use group::Group;
 use keep::{Bytes, Events, Sheets};
+use std::env::{Env, FillError};
+use std::io::Read;
+use std::rt::Files;
 
 fn store_space() -> Sheets
     ensures { 1048577 ≡ length result }
@@ -43,8 +46,10 @@ fn look(group: Group, asked: Asked, out: &mut Out, at: usize) -> usize {
 }
 
 // Answers every line up to the end of the input. The group stays in the last call's answer, and that in this one place: a Group goes by value, and every other place would be a copy more for each command.
-// A proved loop has to end, and nothing says that an input does: the loop counts down from a number that no run uses up.
-fn converse(
+// A proved loop has to end, and nothing says that an input does: the loop has a number of turns that no run uses up.
+fn converse<H: Files + Print, R: Read>(
+    rt: &H,
+    reader: &mut R,
     buffer: &mut Buffer,
     events: &mut Events,
     sheets: &mut Sheets,
@@ -53,10 +58,8 @@ fn converse(
 ) {
     let mut last = Group::fresh(0);
     let mut console = console::started();
-    let mut turns = u64::MAX;
-    while turns > 0 {
-        turns -= 1;
-        console = console::hear(console, &mut *buffer, &*out);
+    for _ in 0..u64::MAX {
+        console = console::hear(rt, &mut *reader, console, &mut *buffer, &*out);
         let asked = console.asked;
         let name = asked.name;
         if name <= ask::MODELS {
@@ -83,10 +86,11 @@ fn converse(
             continue;
         }
         if name == ask::END {
-            answer::flush(&*out, console.at);
+            answer::flush(rt, &*out, console.at);
             return;
         }
         let done = keep::seldom(
+            rt,
             last,
             console,
             &*buffer,
@@ -100,19 +104,33 @@ fn converse(
     }
 }
 
-fn keep_group(out: &mut Out) {
+fn keep_group<H: Files + Print, R: Read>(rt: &H, reader: &mut R, out: &mut Out) {
     let mut buffer = [0u8; input::BUFFER];
     let mut events = kept::space();
     let mut sheets = store_space();
     let mut bytes = delivery_space();
-    converse(&mut buffer, &mut events, &mut sheets, &mut bytes, out);
+    converse(
+        rt,
+        reader,
+        &mut buffer,
+        &mut events,
+        &mut sheets,
+        &mut bytes,
+        out,
+    );
 }
 
-fn main() {
+// Whether the program was started with an argument.
+fn has_argument<E: Env>(rt: &E) -> bool {
+    let mut word = [0u8; 1];
+    !matches!(rt.arg(1, &mut word), Err(FillError::NotPresent))
+}
+
+fn main(rt: HostRuntime) {
     let mut out = [0u8; answer::OUT];
-    if os::arg_count() > 1 {
-        answer::usage(&mut out);
+    if has_argument(&rt) {
+        answer::usage(&rt, &mut out);
         return;
     }
-    keep_group(&mut out);
+    keep_group(&rt, &mut rt.stdin(), &mut out);
 }
