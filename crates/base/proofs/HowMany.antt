@@ -1,6 +1,6 @@
 -- Laws of `how_many`. Assumes nothing.
 use mathlib.Core.Path.{◌≡◌, refl, ap₂}
-use mathlib.Core.Bool.{Bool, true, cond}
+use mathlib.Core.Bool.{Bool, cond}
 use Prim.Native.Nat.{ℕ, zero, suc, ◌+◌, ◌<◌}
 use native.Mathlib.Omega.{arith}
 use Rattle.base.specs.HowMany.{how_many}

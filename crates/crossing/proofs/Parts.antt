@@ -1,6 +1,6 @@
 -- The numbers that name a part, in the list that they name, are the part that the call behind the export shows: the same words at the same place.
 -- Assumes nothing.
-use mathlib.Core.Path.{◌≡◌, refl, sym, ap, ap₂, ◌∙◌}
+use mathlib.Core.Path.{◌≡◌, refl, sym, ap, ◌∙◌}
 use mathlib.Core.Bool.{Bool, true, false, cond}
 use mathlib.Core.List.{List}
 use Prim.Native.Nat.{ℕ, ◌+◌, ◌-◌}
@@ -14,7 +14,7 @@ use Rattle.formula.specs.declared.Verdict.{Verdict}
 use Rattle.formula.specs.declared.Verdict.TheVariants.{Granted, Denied, Refused}
 use Rattle.formula.specs.declared.Moment.TheVariants.{Add, Join}
 use Rattle.evidence.specs.Evidence.{place_of, evidence_of, start_of}
-use Rattle.tick.specs.Tick.{rising, place_from, tick_part, tick_start}
+use Rattle.tick.specs.Tick.{rising, place_from, tick_part}
 use Rattle.tick.proofs.Part.{no_part, part_here}
 use Rattle.crossing.specs.declared.part.Part.{Part}
 use Rattle.crossing.specs.Part.{sheet_strip, evidence_part, records_part}

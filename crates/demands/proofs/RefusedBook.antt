@@ -7,7 +7,6 @@ use Prim.Native.Nat.{ℕ}
 use lib.Dec.{eqb, ltb}
 use lib.ListN.{length, get_or}
 use borrow.Author.Tests.{eqb-true}
-use Rattle.base.specs.First.{first}
 use Rattle.base.proofs.Truth.{either}
 use Rattle.rules.specs.Ranges.{book_header, longest_book}
 use Rattle.rules.specs.Refusals.{bad_length, bad_total, bad_header, bad_count, bad_record, not_rising, ill_formed, short_buffer, short_list}

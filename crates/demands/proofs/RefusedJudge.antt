@@ -8,7 +8,6 @@ use native.Mathlib.Omega.{arith}
 use lib.Dec.{eqb, ltb, leb}
 use lib.ListN.{length}
 use borrow.Author.Tests.{leb-true, le-ltb, not-false}
-use Rattle.base.specs.First.{first}
 use Rattle.base.proofs.Truth.{both, either}
 use Rattle.rules.specs.Ranges.{ticks, events}
 use Rattle.rules.specs.Refusals.{late_now, long_model, long_sheet, bad_model, bad_sheet}

@@ -6,12 +6,7 @@ ghost use Rattle.crossing.specs.Delivered.{delivery_numbers};
 use crossing::numbers::Delivered;
 use group::Group;
 
-pub fn ferrulebee_deliver(
-    group: Group,
-    model: u32,
-    sheets: &[u8],
-    out: &mut [u8],
-) -> Delivered
+pub fn ferrulebee_deliver(group: Group, model: u32, sheets: &[u8], out: &mut [u8]) -> Delivered
     ensures answered { result ≡ delivery_numbers (answer group.grants model sheets.now (length out.old)) }
     ensures left { out.new ≡ buffer_after group.grants model sheets.now out.old }
 {

@@ -1,10 +1,7 @@
 -- Each test of specs/Ticks.antt says its statement of specs/Formula.antt; above all, the grant. Assumes nothing.
-use mathlib.Core.Path.{◌≡◌}
-use mathlib.Core.Bool.{true, ◌&&◌, ◌||◌, not}
+use mathlib.Core.Bool.{not}
 use Prim.Native.Nat.{ℕ}
-use lib.Dec.{eqb}
 use Rattle.rules.specs.Kinds as kinds
-use Rattle.formula.specs.Since.{since}
 use Rattle.formula.specs.Formula.{History, SL, SR, ByAdd, ByJoin, Grant, Moment, Strict}
 use Rattle.formula.specs.Ticks.{inside, liberal, by_add, by_join, moment, strict, grant}
 use Rattle.formula.proofs.Says.{Says, says_eq, says_or, says_and, says_neither, says_since}

@@ -1,8 +1,8 @@
 -- The one law that judge, running gate and book cite: how membership, the liberal stay and the grant move from one tick to the next,
 -- that a quiet tick moves nothing, and that a tick's answer rests on the events up to it. Assumes nothing.
-use mathlib.Core.Path.{◌≡◌, refl, sym, ap, ap₂}
+use mathlib.Core.Path.{◌≡◌, refl, ap, ap₂}
 use mathlib.Core.Bool.{Bool, true, false, not, ◌&&◌, ◌||◌}
-use Prim.Native.Nat.{ℕ, zero, suc, ◌≤◌, ◌<◌}
+use Prim.Native.Nat.{ℕ, zero, suc, ◌≤◌}
 use native.Mathlib.Omega.{arith}
 use lib.Dec.{eqb}
 use Rattle.rules.specs.Kinds.{LJ, SL, LA, SR, is_join, is_leave, is_add, is_remove}

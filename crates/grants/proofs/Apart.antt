@@ -11,7 +11,6 @@ use lib.Bits.{bit_and, bit_or, or_zero_r, and_mask}
 use lib.Dec.{eqb, ltb}
 use lib.ListN.{length, get_or, set}
 use lib.Seq.{ext_get_or}
-use Rattle.base.specs.Table.{table}
 use Rattle.base.proofs.Front.{front, front_none, front_same, turn, last}
 use Rattle.base.proofs.Truth.{either, neither}
 use Rattle.base.proofs.Table.{length_table, get_or_table, table_ext}

@@ -2,8 +2,7 @@
 use mathlib.Core.Path.{◌≡◌, refl, ap, ◌∙◌}
 use mathlib.Core.Bool.{false}
 use mathlib.Core.List.{List}
-use Prim.Native.Nat.{ℕ, zero, suc, ◌≤◌}
-use native.Mathlib.Omega.{arith}
+use Prim.Native.Nat.{ℕ, ◌≤◌}
 use Rattle.rules.specs.Kinds.{LR}
 use Rattle.bits.specs.Bit.{bit}
 use Rattle.sets.specs.Set.{none, has}

@@ -1,8 +1,8 @@
 -- Closing a tick without accepted requests counts the tick and moves nothing else. Assumes nothing.
-use mathlib.Core.Path.{◌≡◌, refl, sym, ap₂, ◌∙◌}
+use mathlib.Core.Path.{◌≡◌, refl, sym, ◌∙◌}
 use mathlib.Core.Bool.{Bool, true, false}
 use mathlib.Core.List.{List}
-use Prim.Native.Nat.{ℕ, zero, suc, ◌+◌, ◌-◌, ◌*◌, ◌/◌, ◌%◌, ◌^◌, ◌≤◌, ◌<◌}
+use Prim.Native.Nat.{ℕ, zero, suc, ◌+◌, ◌-◌, ◌*◌, ◌^◌, ◌≤◌, ◌<◌}
 use native.Mathlib.Nat.{mod-eq_of_lt}
 use native.Mathlib.Omega.{arith}
 use lib.Bits.{bit_and, or_zero_r, and_mask}

@@ -1,5 +1,5 @@
 -- What holds of the words of every group that a machine holds: each fits its place, and each list is as long as its array.
-use Rattle.std.specs.Prelude.{ℕ, ◌^◌, ◌<◌}
+use Rattle.std.specs.Prelude.{◌^◌, ◌<◌}
 use Rattle.rules.specs.Ranges.{sheets}
 use Rattle.bits.specs.Bit.{width}
 use Rattle.group.specs.SheetWords.{sheet_words}

@@ -3,14 +3,13 @@ use mathlib.Core.Path.{◌≡◌}
 use mathlib.Core.Bool.{true, false}
 use mathlib.Core.List.{List}
 use mathlib.Core.Logic.{⊎_elim}
-use Prim.Native.Nat.{ℕ, zero, suc, ◌+◌, ◌*◌, ◌≤◌, ◌<◌}
+use Prim.Native.Nat.{ℕ, zero, suc, ◌+◌, ◌*◌, ◌≤◌}
 use native.Mathlib.Numerals.{add-one}
 use native.Mathlib.Omega.{arith}
 use Rattle.base.proofs.Truth.{either}
 use Rattle.rules.specs.Ranges.{sheets, store_bytes}
 use Rattle.bits.specs.Granted.{granted}
 use Rattle.store.proofs.Store.{good}
-use Rattle.parts.specs.Granted.{granted_below}
 use Rattle.parts.specs.Delivery.{delivery_length, granted_sheets}
 use Rattle.parts.specs.Ready.{Ready}
 use Rattle.parts.proofs.Fault.{fault_free}

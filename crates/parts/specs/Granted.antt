@@ -1,5 +1,5 @@
 -- The sheets that a group grants a model.
-use Rattle.std.specs.Prelude.{ℕ, zero, suc, Bool, cond, List, [], ◌∷◌, ◌++◌}
+use Rattle.std.specs.Prelude.{ℕ, zero, suc, cond, List, [], ◌∷◌, ◌++◌}
 use Rattle.bits.specs.Granted.{granted}
 
 -- the granted sheets below k, by rising number

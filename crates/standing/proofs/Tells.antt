@@ -1,15 +1,14 @@
 -- The pass over ticks tells the verdict of the formula, and whether the grant holds. Assumes nothing.
-use mathlib.Core.Path.{◌≡◌, refl, sym, ap, ap₂, ◌∙◌}
-use mathlib.Core.Bool.{Bool, true, false, cond, not, ◌&&◌, ◌||◌, and-false, or-true}
-use mathlib.Core.Logic.{◌⊎◌, ⊎_elim}
-use Prim.Native.Nat.{ℕ, zero, suc, ◌≤◌, ◌<◌}
+use mathlib.Core.Path.{◌≡◌, refl, sym, ap, ◌∙◌}
+use mathlib.Core.Bool.{Bool, true, false, not, ◌&&◌, ◌||◌, and-false}
+use mathlib.Core.Logic.{⊎_elim}
+use Prim.Native.Nat.{ℕ, zero, suc, ◌≤◌}
 use native.Mathlib.Omega.{arith}
 use lib.Dec.{eqb, ltb}
 use borrow.Author.Tests.{lt-ltb, le-ltb, ne_eqb}
-use Rattle.base.specs.First.{first}
 use Rattle.base.proofs.First.{first_none, step_found, step_now, step_on}
 use Rattle.base.proofs.Truth.{either}
-use Rattle.rules.specs.Kinds.{LJ, SL, SR, is_add}
+use Rattle.rules.specs.Kinds.{SL, SR}
 use Rattle.formula.specs.Formula.{History}
 use Rattle.formula.specs.Ticks.{inside, liberal, by_add, by_join, strict, grant}
 use Rattle.formula.specs.Verdict.{latest, earliest, granted_at, denied, verdict}

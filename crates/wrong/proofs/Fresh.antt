@@ -8,7 +8,6 @@ use lib.ListN.{length, drop}
 use Rattle.base.proofs.First.{first_none}
 use Rattle.rules.specs.Ranges.{sheets}
 use Rattle.wire.specs.Word.{le32, bytes32}
-use Rattle.bits.specs.Granted.{granted}
 use Rattle.group.specs.Fresh.{fresh_group}
 use Rattle.group.proofs.Fresh.{fresh_granted}
 use Rattle.store.specs.Store.{good_store}

@@ -1,6 +1,5 @@
 -- `bits::has_bit` meets its contract.
 use Rattle.bits.proofs.Bit.{bit_test}
-use borrow.Author.Rules.{rules}
 use Rattle.bits.proofs.has_bit.Goals as goal
 
 pub returns : goal.returns

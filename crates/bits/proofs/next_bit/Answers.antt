@@ -5,7 +5,6 @@ use native.Mathlib.Omega.{arith}
 use lib.Count.{count_trailing_zeros}
 use Rattle.bits.specs.Bit.{bit}
 use Rattle.bits.proofs.Next.{next_none, next_is, zeros_unset, zeros_set, bit_shifted}
-use borrow.Author.Rules.{rules}
 use Rattle.bits.proofs.next_bit.Goals as goal
 
 pub returns-then-from-ge-WIDTH : goal.returns-then-from-ge-WIDTH
@@ -13,12 +12,10 @@ returns-then-from-ge-WIDTH c = sym (next_none c.args.word c.args.from (λ i l h.
 
 pub returns-then-zeros-from : goal.returns-then-zeros-from
 returns-then-zeros-from c =
-
     sym (next_none c.args.word c.args.from (λ i l h. bit_shifted c.args.word c.args.from i l ∙ zeros_unset 64 (c.args.word / 2 ^ c.args.from) (i - c.args.from) (omega arith)))
 
 pub returns : goal.returns
 returns c =
-
     let zeros : ℕ = count_trailing_zeros 64 (c.args.word / 2 ^ c.args.from) in
     let back : (c.args.from + zeros) - c.args.from ≡ zeros = omega arith in
     sym (next_is c.args.word c.args.from (c.args.from + zeros) (omega arith) (omega arith)

@@ -2,7 +2,6 @@
 use mathlib.Core.Path.{ap}
 use lib.Bits.{bit_or}
 use Rattle.bits.proofs.Bit.{shl_one}
-use borrow.Author.Rules.{rules}
 use Rattle.bits.proofs.with_bit.Goals as goal
 
 pub returns : goal.returns

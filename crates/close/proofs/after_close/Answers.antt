@@ -2,9 +2,7 @@
 use mir.Syntax.{w64}
 use mir.Val.{Fits as FitsIn}
 use lib.ListN.{get_or}
-use Rattle.rules.specs.Ranges.{sheets}
 use Rattle.group.specs.Close.{closed_group}
-use Rattle.grants.specs.Words.{Sized}
 use borrow.Author.Rules.{rules}
 use Rattle.close.proofs.after_close.Goals as goal
 

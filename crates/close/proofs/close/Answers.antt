@@ -3,7 +3,6 @@ use native.Mathlib.Omega.{arith}
 use borrow.Author.Tests.{le-leb, lt-leb}
 use Rattle.rules.specs.Ranges.{ticks}
 use Rattle.group.specs.Close.{close_answer}
-use borrow.Author.Rules.{rules}
 use Rattle.close.proofs.close.Goals as goal
 
 pub returns-then-group-lt-TICKS : goal.returns-then-group-lt-TICKS

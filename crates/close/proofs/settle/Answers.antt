@@ -1,6 +1,5 @@
 -- `close::settle` meets its contract: each field by its own call.
 use Rattle.group.specs.Close.{closed_members, closed_added, closed_liberal}
-use borrow.Author.Rules.{rules}
 use Rattle.close.proofs.settle.Goals as goal
 
 pub returns : goal.returns

@@ -1,5 +1,4 @@
 -- `delivery::deliver` meets its contract, which is that of the call by grants, at the group's. Assumes nothing.
-use borrow.Author.Rules.{rules}
 use Rattle.delivery.proofs.deliver.Goals as goal
 
 pub returns : goal.returns

@@ -1,15 +1,10 @@
 use borrow.Author.Rules.{rules}
 use mathlib.Core.Path.{◌≡◌, sym, ◌∙◌}
-use mathlib.Core.Bool.{Bool}
-use mathlib.Core.List.{List}
-use Prim.Native.Nat.{ℕ, ◌≤◌, ◌-◌}
 use native.Mathlib.Omega.{arith}
-use lib.Dec.{eqb}
-use lib.ListN.{length, get_or}
+use lib.ListN.{length}
 use borrow.Author.Count.{below_more}
 use borrow.Author.Tests.{eq-eqb, ne_eqb}
-use Rattle.base.proofs.First.{None, first_is, first_none}
-use Rattle.event.specs.Word.{tick_of}
+use Rattle.base.proofs.First.{first_is, first_none}
 use Rattle.evidence.specs.Evidence.{place_of}
 use Rattle.evidence.proofs.place_of.Invariants.{has}
 use Rattle.evidence.proofs.place_of.Goals as goal
@@ -19,11 +14,10 @@ loop-i-init c = (search rules, λ k h. absurd (omega arith))
 
 pub returns-then-tick : goal.returns-then-tick
 unfolding place_of
-returns-then-tick c =
- (
-      sym (first_is (has c.args.s.now c.args.tick) (length c.args.s.now) c.loop-i.i (omega arith) c.loop-i.invariant.1 (eq-eqb _ _ (sym c.tick.ensures ∙ c.if-tick.true))),
-      omega arith,
-    )
+returns-then-tick c = (
+  sym (first_is (has c.args.s.now c.args.tick) (length c.args.s.now) c.loop-i.i (omega arith) c.loop-i.invariant.1 (eq-eqb _ _ (sym c.tick.ensures ∙ c.if-tick.true))),
+  omega arith,
+)
 
 pub loop-i-preserved : goal.loop-i-preserved
 loop-i-preserved c =
@@ -33,5 +27,4 @@ pub returns : goal.returns
 unfolding place_of
 returns c =
     let e : c.loop-i.i ≡ length c.args.s.now = omega arith in
-
     (e ∙ sym (first_none (has c.args.s.now c.args.tick) (length c.args.s.now) (λ k h. c.loop-i.invariant.1 k (omega arith))), omega arith)

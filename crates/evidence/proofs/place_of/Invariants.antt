@@ -1,17 +1,11 @@
 -- The loop has passed no event of the tick.
-use borrow.Author.Rules.{rules}
-use mathlib.Core.Path.{◌≡◌, sym, ◌∙◌}
 use mathlib.Core.Bool.{Bool}
 use mathlib.Core.List.{List}
 use Prim.Native.Nat.{ℕ, ◌≤◌, ◌-◌}
-use native.Mathlib.Omega.{arith}
 use lib.Dec.{eqb}
 use lib.ListN.{length, get_or}
-use borrow.Author.Count.{below_more}
-use borrow.Author.Tests.{eq-eqb, ne_eqb}
-use Rattle.base.proofs.First.{None, first_is, first_none}
+use Rattle.base.proofs.First.{None}
 use Rattle.event.specs.Word.{tick_of}
-use Rattle.evidence.specs.Evidence.{place_of}
 use Rattle.evidence.proofs.place_of.Given as goal
 
 abbrev pub has : List ℕ → ℕ → ℕ → Bool

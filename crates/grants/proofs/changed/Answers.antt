@@ -1,7 +1,6 @@
 -- `grants::changed` meets its contract.
 use mathlib.Core.Path.{ap}
 use lib.Bits.{bit_or}
-use borrow.Author.Rules.{rules}
 use Rattle.grants.proofs.changed.Goals as goal
 
 pub returns : goal.returns

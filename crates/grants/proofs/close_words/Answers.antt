@@ -5,7 +5,6 @@ use Prim.Native.Nat.{ℕ}
 use lib.ListN.{length}
 use Rattle.grants.specs.Gain.{gained_words}
 use Rattle.grants.proofs.Apart.{closed_apart, length_lost}
-use borrow.Author.Rules.{rules}
 use Rattle.grants.proofs.close_words.Goals as goal
 
 pub gain-requires : goal.gain-requires

@@ -1,10 +1,9 @@
 use mathlib.Core.Path.{refl}
-use Prim.Native.Nat.{◌-◌, ◌/◌, ◌≤◌}
+use Prim.Native.Nat.{◌/◌}
 use native.Mathlib.Omega.{arith}
 use borrow.Author.Tests.{le-ltb}
 use Rattle.bits.specs.Bit.{width}
-use Rattle.grants.specs.Gain.{gained_words}
-use Rattle.grants.proofs.Apart.{Upto, upto_more, upto_all}
+use Rattle.grants.proofs.Apart.{upto_more, upto_all}
 use borrow.Author.Rules.{rules}
 use Rattle.grants.proofs.gain.Goals as goal
 
@@ -15,12 +14,11 @@ pub gain_word-requires : goal.gain_word-requires
 gain_word-requires c = (c.loop-k.invariant.1.0, search rules)
 
 pub loop-k-preserved : goal.loop-k-preserved
-loop-k-preserved c =
- (
-      search rules,
-      upto_more c.args.words.now c.args.sr c.args.adds c.args.liberal c.args.members c.args.lj c.loop-k.k c.loop-k.words c.loop-k.invariant.1 _ _ _ _
-          c.word_of-removed.ensures c.word_of-added.ensures c.word_of-inside.ensures c.gain_word.ensures,
-    )
+loop-k-preserved c = (
+  search rules,
+  upto_more c.args.words.now c.args.sr c.args.adds c.args.liberal c.args.members c.args.lj c.loop-k.k c.loop-k.words c.loop-k.invariant.1 _ _ _ _
+      c.word_of-removed.ensures c.word_of-added.ensures c.word_of-inside.ensures c.gain_word.ensures,
+)
 
 pub returns : goal.returns
 returns c =

@@ -1,12 +1,7 @@
 -- `grants::gain` meets its contract: the sheets of the first k words have their new words.
-use mathlib.Core.Path.{refl}
-use Prim.Native.Nat.{◌-◌, ◌/◌, ◌≤◌}
-use native.Mathlib.Omega.{arith}
-use borrow.Author.Tests.{le-ltb}
-use Rattle.bits.specs.Bit.{width}
+use Prim.Native.Nat.{◌≤◌}
 use Rattle.grants.specs.Gain.{gained_words}
-use Rattle.grants.proofs.Apart.{Upto, upto_more, upto_all}
-use borrow.Author.Rules.{rules}
+use Rattle.grants.proofs.Apart.{Upto}
 use Rattle.grants.proofs.gain.Given as goal
 
 abbrev pub invariant-loop-k : goal.invariant-loop-k

@@ -1,13 +1,9 @@
 -- `grants::gain_word` meets its contract: from one sheet that changes to the next, those before have their new words and those between keep theirs.
 use mathlib.Core.Path.{◌≡◌}
 use Prim.Native.Nat.{◌+◌, ◌-◌, ◌*◌, ◌≤◌}
-use native.Mathlib.Omega.{arith}
 use Rattle.base.proofs.Front.{front}
 use Rattle.bits.specs.Bit.{width}
-use Rattle.bits.proofs.Next.{next_le, next_from}
 use Rattle.grants.specs.Gain.{gained_in}
-use Rattle.grants.proofs.Apart.{word_start, word_turn, word_end}
-use borrow.Author.Rules.{rules}
 use Rattle.grants.proofs.gain_word.Given as goal
 
 abbrev pub invariant-loop-place : goal.invariant-loop-place

@@ -1,6 +1,5 @@
 -- `grants::gained` meets its contract.
 use Rattle.grants.specs.Gain.{gained_word}
-use borrow.Author.Rules.{rules}
 use Rattle.grants.proofs.gained.Goals as goal
 
 pub returns : goal.returns

@@ -1,8 +1,8 @@
-use mathlib.Core.Path.{◌≡◌, refl, sym}
-use Prim.Native.Nat.{◌-◌, ◌^◌, ◌≤◌}
+use mathlib.Core.Path.{refl, sym}
+use Prim.Native.Nat.{◌-◌, ◌^◌}
 use native.Mathlib.Omega.{arith}
 use lib.Bits.{bit_and}
-use Rattle.base.proofs.Front.{front, front_none, turn, last}
+use Rattle.base.proofs.Front.{front_none, turn, last}
 use Rattle.rules.specs.Ranges.{sheets}
 use Rattle.bits.specs.Bit.{width}
 use Rattle.grants.specs.Gain.{lost_words}
@@ -18,11 +18,10 @@ loop-s-init c = (search rules, sym (front_none _ _))
 
 pub loop-s-preserved : goal.loop-s-preserved
 unfolding lost_words
-loop-s-preserved c =
- (
-      search rules,
-      turn sheets (λ s word. bit_and word ((2 ^ width - 1) - c.args.sl)) c.args.words.now c.loop-s.words c.loop-s.s _ (search rules) c.loop-s.invariant.1 refl,
-    )
+loop-s-preserved c = (
+  search rules,
+  turn sheets (λ s word. bit_and word ((2 ^ width - 1) - c.args.sl)) c.args.words.now c.loop-s.words c.loop-s.s _ (search rules) c.loop-s.invariant.1 refl,
+)
 
 pub returns : goal.returns
 unfolding lost_words

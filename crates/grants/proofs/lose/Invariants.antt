@@ -1,14 +1,9 @@
 -- `grants::lose` meets its contract: a pass over the sheets, the first s of which have their new words.
-use mathlib.Core.Path.{◌≡◌, refl, sym}
-use Prim.Native.Nat.{◌-◌, ◌^◌, ◌≤◌}
-use native.Mathlib.Omega.{arith}
-use lib.Bits.{bit_and}
-use Rattle.base.proofs.Front.{front, front_none, turn, last}
+use mathlib.Core.Path.{◌≡◌}
+use Prim.Native.Nat.{◌≤◌}
+use Rattle.base.proofs.Front.{front}
 use Rattle.rules.specs.Ranges.{sheets}
-use Rattle.bits.specs.Bit.{width}
 use Rattle.grants.specs.Gain.{lost_words}
-use Rattle.grants.proofs.Apart.{lost_none}
-use borrow.Author.Rules.{rules}
 use Rattle.grants.proofs.lose.Given as goal
 
 abbrev pub invariant-loop-s : goal.invariant-loop-s

@@ -6,17 +6,14 @@ use Rattle.strip.specs.History.{history_of}
 use Rattle.strip.proofs.Places.{good_rising, good_upto}
 use Rattle.judge.specs.declared.check.Checked.{Checked}
 use Rattle.standing.specs.declared.Seen.{Seen}
-use Rattle.judge.specs.Judge.{StripsAccepted}
 use Rattle.standing.specs.Scan.{told_by}
 use Rattle.judge.proofs.Checked.{checks, check_accepts, check_refuses, judges}
 use Rattle.standing.proofs.Tells.{scan_tells}
-use borrow.Author.Rules.{rules}
 use Rattle.judge.proofs.judge.Goals as goal
 
 pub returns-then-checked-ne0 : goal.returns-then-checked-ne0
 returns-then-checked-ne0 c =
     let e = c.check-checked.ensures in
-
     judges _ _ _ _
     (ap (λ (x : Checked). Refused x.code x.place) e
     ∙ sym (check_refuses c.args.m.now c.args.s.now c.args.now Refused (verdict (history_of c.args.m.now) (history_of c.args.s.now) c.args.now)
@@ -30,7 +27,6 @@ scan-seen-requires c =
 pub returns : goal.returns
 returns c =
     let x = (check_accepts _ _ _ (sym (ap (λ (x : Checked). x.code) c.check-checked.ensures) ∙ c.if-checked-ne0.false)) in
-
     judges _ _ _ _
     (c.told.ensures
     ∙ ap (λ (y : Seen). told_by y.standing) (c.scan-seen.ensures c.args.now (good_upto _ _ _ x.good_m) (good_upto _ _ _ x.good_s))

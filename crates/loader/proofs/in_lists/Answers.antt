@@ -1,10 +1,9 @@
 -- The part of a list that holds the decoded words is those words.
 use mathlib.Core.Path.{ap₂, ◌∙◌}
 use mathlib.Core.List.{List}
-use Prim.Native.Nat.{ℕ, ◌-◌}
+use Prim.Native.Nat.{ℕ}
 use Rattle.wire.proofs.Words.{lent}
 use Rattle.judge.specs.Judge.{judged_by}
-use borrow.Author.Rules.{rules}
 use Rattle.loader.proofs.in_lists.Goals as goal
 
 pub returns : goal.returns

@@ -3,7 +3,7 @@ use mathlib.Core.Path.{◌≡◌, sym, ap, ◌∙◌}
 use mathlib.Core.Bool.{true, not}
 use Prim.Native.Nat.{ℕ, ◌/◌, ◌%◌, ◌*◌, ◌≤◌}
 use native.Mathlib.Omega.{arith}
-use lib.Dec.{eqb, leb}
+use lib.Dec.{eqb}
 use borrow.Author.Tests.{le-ltb, leb-true, not-false}
 use Rattle.base.proofs.Rules.{answers}
 use Rattle.base.proofs.Truth.{both}
@@ -11,7 +11,6 @@ use Rattle.rules.specs.Ranges.{events}
 use Rattle.wire.specs.Words.{words_in}
 use Rattle.loader.specs.Judge.{whole_strip, judged_from}
 use Rattle.judge.specs.Judge.{judged_by}
-use borrow.Author.Rules.{rules}
 use Rattle.loader.proofs.judged.Goals as goal
 
 short : (n : ℕ) → whole_strip n ≡ true → n / 4 ≤ events

@@ -1,7 +1,6 @@
 -- The two numbers of a verdict stand side by side.
 use mathlib.Core.Path.{ap₂, ◌∙◌}
 use Prim.Native.Nat.{ℕ, ◌+◌, ◌*◌}
-use borrow.Author.Rules.{rules}
 use Rattle.loader.proofs.pack.Goals as goal
 
 pub returns : goal.returns

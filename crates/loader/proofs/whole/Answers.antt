@@ -1,6 +1,5 @@
 -- The tests are the definition's.
 use mathlib.Core.Path.{refl}
-use borrow.Author.Rules.{rules}
 use Rattle.loader.proofs.whole.Goals as goal
 
 pub returns : goal.returns

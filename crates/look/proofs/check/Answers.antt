@@ -1,13 +1,10 @@
 use mathlib.Core.Path.{◌≡◌, sym, ap, ap₂, ◌∙◌}
-use mathlib.Core.Bool.{true, false}
 use mathlib.Core.List.{List}
-use Prim.Native.Nat.{ℕ, ◌-◌, ◌≤◌}
+use Prim.Native.Nat.{ℕ}
 use native.Mathlib.Omega.{arith}
 use borrow.Author.Rules.{rules}
 use borrow.Author.Tests.{not-true, not-false}
-use Rattle.bits.specs.Granted.{granted}
-use Rattle.store.specs.Entry.{entry_fault}
-use Rattle.store.proofs.Store.{Good, good}
+use Rattle.store.proofs.Store.{good}
 use Rattle.store.proofs.Entry.{sound}
 use Rattle.parts.specs.Fault.{first_faulty}
 use Rattle.parts.proofs.Sums.{Sums, sums_none, sums_out, sums_in, sums_stop, sums_end}
@@ -41,11 +38,10 @@ length_of-requires c =
     omega (arith, entry.inside, g.table)
 
 pub loop-sheet-preserved : goal.loop-sheet-preserved
-loop-sheet-preserved c =
- (
-      search rules,
-      rw c.length_of.ensures.0 (sums_in _ _ _ _ _ _ c.loop-sheet.invariant.1 ((good c.args.store.now c.requires.1)) ((sym c.is_granted.ensures ∙ not-false _ (ap not c.if-not-is_granted.false))) ((sym c.entry_fault.ensures ∙ c.if-entry_fault-ne0.false))),
-    )
+loop-sheet-preserved c = (
+  search rules,
+  rw c.length_of.ensures.0 (sums_in _ _ _ _ _ _ c.loop-sheet.invariant.1 ((good c.args.store.now c.requires.1)) ((sym c.is_granted.ensures ∙ not-false _ (ap not c.if-not-is_granted.false))) ((sym c.entry_fault.ensures ∙ c.if-entry_fault-ne0.false))),
+)
 
 pub returns : goal.returns
 returns c =

@@ -10,7 +10,6 @@ use Rattle.wire.proofs.Word.{length_bytes32}
 use Rattle.wire.proofs.Put.{put_front}
 use Rattle.parts.specs.Delivery.{parts, delivery_length, delivery_of}
 use Rattle.parts.proofs.Head.{put_headed}
-use borrow.Author.Rules.{rules}
 use Rattle.parts.proofs.write_delivery.Goals as goal
 
 -- o1 and o2 are the buffer after the words, o3 after the parts

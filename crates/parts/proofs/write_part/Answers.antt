@@ -13,7 +13,6 @@ use Rattle.store.specs.Entry.{offset, sheet_length}
 use Rattle.parts.specs.Delivery.{sheet_bytes, part}
 use Rattle.parts.proofs.Head.{put_headed}
 use Rattle.parts.proofs.Parts.{length_part}
-use borrow.Author.Rules.{rules}
 use Rattle.parts.proofs.write_part.Goals as goal
 
 -- o1 and o2 are the buffer after the words, bytes what was copied

@@ -1,17 +1,15 @@
 use mathlib.Core.Path.{◌≡◌, sym, ◌∙◌}
-use mathlib.Core.Bool.{true, false}
-use Prim.Native.Nat.{◌+◌, ◌-◌, ◌≤◌}
+use Prim.Native.Nat.{◌+◌, ◌≤◌}
 use native.Mathlib.Omega.{arith}
 use borrow.Author.Rules.{rules}
 use borrow.Author.Tests.{not-true, not-false}
 use lib.ListN.{length}
-use Rattle.bits.specs.Granted.{granted}
 use Rattle.store.specs.Entry.{offset, sheet_length}
 use Rattle.store.proofs.Store.{good}
 use Rattle.store.proofs.Entry.{sound}
 use Rattle.parts.proofs.Fault.{fault_free}
 use Rattle.parts.proofs.Parts.{length_part}
-use Rattle.parts.proofs.Filled.{Filled, filled_none, filled_out, filled_in, part_fits, length_filled}
+use Rattle.parts.proofs.Filled.{filled_none, filled_out, filled_in, part_fits, length_filled}
 use mathlib.Core.Bool.{not}
 use mathlib.Core.Path.{ap}
 use Rattle.parts.proofs.write_parts.Goals as goal

@@ -1,5 +1,4 @@
 use borrow.Author.Tests.{lt-ltb, le-ltb}
-use borrow.Author.Rules.{rules}
 use Rattle.pass.proofs.advance.Goals as goal
 
 pub returns-then-model-sheet : goal.returns-then-model-sheet

@@ -1,5 +1,4 @@
 -- `refusal::model_marked` meets its contract.
-use borrow.Author.Rules.{rules}
 use Rattle.refusal.proofs.model_marked.Goals as goal
 
 pub returns : goal.returns

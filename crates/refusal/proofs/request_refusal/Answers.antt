@@ -11,14 +11,13 @@ use Rattle.event.specs.Carrier.{carriers, entering}
 use Rattle.group.specs.Marks.{carrier_marked, carrier_in}
 use Rattle.group.specs.declared.Group.{Group}
 use Rattle.group.specs.Request.{request_refusal}
-use borrow.Author.Rules.{rules}
 use Rattle.refusal.proofs.request_refusal.Goals as goal
 
 -- where the kind and the number are in range, what is left of the order, over what the calls gave
 in_order : (g : Group) (kind number most : ℕ) (marked inside enters : Bool) → kind ≤ LR → number < most → most ≡ carriers kind
     → marked ≡ carrier_marked g kind number → inside ≡ carrier_in g kind number → enters ≡ entering kind
     → request_refusal g kind number
-      ≡ cond (leb ticks g.closed) no_tick_left (cond marked second_event (cond enters (cond inside already_in 0) (cond inside 0 not_in)))
+    ≡ cond (leb ticks g.closed) no_tick_left (cond marked second_event (cond enters (cond inside already_in 0) (cond inside 0 not_in)))
 unfolding request_refusal
 in_order g kind number most marked inside enters known below e m i n =
     let b : number < carriers kind = subst (λ (n : ℕ). number < n) e below in

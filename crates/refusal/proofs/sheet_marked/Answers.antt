@@ -1,5 +1,4 @@
 -- `refusal::sheet_marked` meets its contract.
-use borrow.Author.Rules.{rules}
 use Rattle.refusal.proofs.sheet_marked.Goals as goal
 
 pub returns : goal.returns

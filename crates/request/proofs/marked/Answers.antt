@@ -1,10 +1,5 @@
 -- `request::marked` meets its contract: each kind's marks by their own call.
-use mathlib.Core.Path.{◌≡◌, refl}
-use mathlib.Core.Bool.{true}
-use Prim.Native.Nat.{ℕ, ◌<◌}
-use lib.Dec.{eqb}
-use Rattle.rules.specs.Ranges.{models, sheets}
-use Rattle.event.specs.Carrier.{of_model}
+use mathlib.Core.Path.{refl}
 use Rattle.rules.specs.Kinds.{SJ, LJ, SL, LL}
 use Rattle.group.specs.Request.{marked_group}
 use Rattle.event.proofs.Carrier.{sheet_number, model_number}

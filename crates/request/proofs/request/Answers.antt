@@ -12,7 +12,6 @@ use Rattle.rules.specs.Refusals.{bad_kind, bad_number}
 use Rattle.event.specs.Carrier.{carriers}
 use Rattle.group.specs.Request.{request_refusal, request_answer}
 use Rattle.group.specs.declared.Group.{Group}
-use borrow.Author.Rules.{rules}
 use Rattle.request.proofs.request.Goals as goal
 
 -- a request that neither 1 nor 2 refuses has its number in range

@@ -1,8 +1,7 @@
 use mathlib.Core.Path.{◌≡◌, sym}
-use Prim.Native.Nat.{◌-◌, ◌≤◌}
 use native.Mathlib.Omega.{arith}
 use lib.ListN.{length, get_or}
-use Rattle.base.proofs.Front.{front, front_none, turn, last}
+use Rattle.base.proofs.Front.{front_none, turn, last}
 use Rattle.bits.specs.Bit.{after_word}
 use Rattle.sets.specs.Set.{after}
 use borrow.Author.Rules.{rules}

@@ -1,9 +1,8 @@
 use mathlib.Core.Path.{◌≡◌, refl, sym}
-use Prim.Native.Nat.{◌-◌, ◌≤◌}
 use native.Mathlib.Omega.{arith}
 use lib.ListN.{length, get_or}
 use lib.Bits.{bit_or}
-use Rattle.base.proofs.Front.{front, front_none, turn, last}
+use Rattle.base.proofs.Front.{front_none, turn, last}
 use Rattle.sets.specs.Set.{either}
 use borrow.Author.Rules.{rules}
 use Rattle.sets.proofs.either.Goals as goal

@@ -1,12 +1,8 @@
 -- `sets::either` meets its contract: a pass over the words, the first k of which are joined.
-use mathlib.Core.Path.{◌≡◌, refl, sym}
-use Prim.Native.Nat.{◌-◌, ◌≤◌}
-use native.Mathlib.Omega.{arith}
-use lib.ListN.{length, get_or}
-use lib.Bits.{bit_or}
-use Rattle.base.proofs.Front.{front, front_none, turn, last}
+use mathlib.Core.Path.{◌≡◌}
+use Prim.Native.Nat.{◌≤◌}
+use Rattle.base.proofs.Front.{front}
 use Rattle.sets.specs.Set.{either}
-use borrow.Author.Rules.{rules}
 use Rattle.sets.proofs.either.Given as goal
 
 abbrev pub invariant-loop-k : goal.invariant-loop-k

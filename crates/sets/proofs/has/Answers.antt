@@ -1,6 +1,5 @@
 -- `sets::has` meets its contract.
 use Rattle.sets.specs.Set.{has}
-use borrow.Author.Rules.{rules}
 use Rattle.sets.proofs.has.Goals as goal
 
 pub returns : goal.returns

@@ -1,6 +1,5 @@
 -- `sets::with` meets its contract.
 use Rattle.sets.specs.Set.{with}
-use borrow.Author.Rules.{rules}
 use Rattle.sets.proofs.with.Goals as goal
 
 pub returns : goal.returns

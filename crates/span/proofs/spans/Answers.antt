@@ -15,7 +15,6 @@ use Rattle.span.specs.declared.SpansAnswer.{SpansAnswer}
 use Rattle.span.proofs.Answers.{answer_refused, list_refused, answer_crowded, list_crowded, answer_given, list_given}
 use Rattle.span.proofs.Few.{spans_few}
 use Rattle.span.proofs.Fit.{no_room, all_put}
-use borrow.Author.Rules.{rules}
 use Rattle.span.proofs.spans.Goals as goal
 
 -- no more pairs than half the events

@@ -1,6 +1,5 @@
 use mathlib.Core.Path.{refl}
 use borrow.Author.Tests.{eq-eqb, ne_eqb}
-use borrow.Author.Rules.{rules}
 use Rattle.spanning.proofs.end.Goals as goal
 
 pub returns-then-was-eq0 : goal.returns-then-was-eq0

@@ -1,5 +1,4 @@
 use mathlib.Core.Path.{refl}
-use borrow.Author.Rules.{rules}
 use Rattle.spanning.proofs.turn.Goals as goal
 
 pub returns-then-holds : goal.returns-then-holds

@@ -1,8 +1,4 @@
-use Prim.Native.Nat.{◌*◌}
-use native.Mathlib.Omega.{arith}
-use lib.ListN.{length-set}
 use borrow.Author.Tests.{lt-ltb, le-ltb}
-use borrow.Author.Rules.{rules}
 use Rattle.spanning.proofs.write.Goals as goal
 
 pub returns-then-place-list : goal.returns-then-place-list

@@ -2,7 +2,6 @@
 use mathlib.Core.Path.{sym}
 use borrow.Author.Tests.{eq-eqb, ne_eqb}
 use Rattle.station.specs.Mask.{answer_with}
-use borrow.Author.Rules.{rules}
 use Rattle.station.proofs.answer.Goals as goal
 
 pub returns-then-code-eq0 : goal.returns-then-code-eq0

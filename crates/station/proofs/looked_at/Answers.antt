@@ -2,7 +2,6 @@
 use mathlib.Core.Path.{sym}
 use borrow.Author.Tests.{eq-eqb, ne_eqb}
 use Rattle.station.specs.Mask.{looked_at}
-use borrow.Author.Rules.{rules}
 use Rattle.station.proofs.looked_at.Goals as goal
 
 pub returns-then-refusal-eq0 : goal.returns-then-refusal-eq0

@@ -2,7 +2,6 @@
 use borrow.Author.Tests.{le-leb, lt-leb}
 use Rattle.group.specs.Read.{read_refusal}
 use Rattle.station.specs.Mask.{list_refusal}
-use borrow.Author.Rules.{rules}
 use Rattle.station.proofs.refusal.Goals as goal
 
 pub returns-then-n : goal.returns-then-n

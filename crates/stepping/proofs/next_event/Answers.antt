@@ -1,6 +1,4 @@
 use borrow.Author.Tests.{lt-ltb, le-ltb}
-use Rattle.base.proofs.Rules.{answers}
-use borrow.Author.Rules.{rules}
 use Rattle.stepping.proofs.next_event.Goals as goal
 
 pub returns-then-i-s : goal.returns-then-i-s

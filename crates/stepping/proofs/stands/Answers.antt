@@ -1,4 +1,3 @@
-use borrow.Author.Rules.{rules}
 use Rattle.stepping.proofs.stands.Goals as goal
 
 pub returns-then-added : goal.returns-then-added

@@ -1,4 +1,3 @@
-use borrow.Author.Rules.{rules}
 use Rattle.stepping.proofs.step.Goals as goal
 
 pub returns : goal.returns

@@ -1,8 +1,7 @@
 -- `store::entry_fault` meets its contract: each of its returns is a case of the definition, since a good store's total is its length. Assumes nothing.
 use mathlib.Core.Path.{sym}
 use native.Mathlib.Omega.{arith}
-use borrow.Author.Rules.{rules}
-use Rattle.store.proofs.Store.{Good, good}
+use Rattle.store.proofs.Store.{good}
 use Rattle.store.proofs.Entry.{fault_missing, fault_early, fault_late, fault_none}
 use Rattle.store.proofs.entry_fault.Goals as goal
 

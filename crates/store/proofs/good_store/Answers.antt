@@ -2,7 +2,6 @@
 use borrow.Author.Tests.{le-leb}
 use Rattle.base.proofs.Rules.{answers}
 use Rattle.store.specs.Store.{good_store}
-use borrow.Author.Rules.{rules}
 use Rattle.store.proofs.good_store.Goals as goal
 
 pub returns-then-len-lt8 : goal.returns-then-len-lt8

@@ -1,10 +1,10 @@
 use mathlib.Core.Path.{◌≡◌, refl, ap, ◌∙◌}
 use mathlib.Core.List.{List, ◌++◌, append-nil}
-use Prim.Native.Nat.{ℕ, ◌+◌, ◌-◌, ◌≤◌, ◌<◌}
+use Prim.Native.Nat.{ℕ, ◌+◌, ◌≤◌, ◌<◌}
 use native.Mathlib.Numerals.{add-one}
 use native.Mathlib.Omega.{arith}
 use borrow.Author.Rules.{rules}
-use lib.ListN.{length, get_or, take, drop, set, length-append, length-drop, drop_of_length-le}
+use lib.ListN.{length, get_or, take, set, length-append, length-drop, drop_of_length-le}
 use lib.Seq.{length-take-le, take-suc, take_all, drop-cons, set_at, append_snoc}
 use Rattle.wire.proofs.copy.Invariants.{copied}
 use Rattle.wire.proofs.copy.Goals as goal
@@ -26,8 +26,6 @@ loop-i-init c = (search rules, refl)
 
 pub loop-i-preserved : goal.loop-i-preserved
 loop-i-preserved c =
-
-
     (search rules, ap (λ (l : List ℕ). set l c.loop-i.i (get_or c.args.from.now c.loop-i.i 0)) c.loop-i.invariant.1 ∙ more c.args.from.now c.args.to.now c.loop-i.i (omega arith) (omega arith))
 
 pub returns : goal.returns

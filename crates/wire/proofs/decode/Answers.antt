@@ -1,10 +1,10 @@
 use mathlib.Core.Path.{◌≡◌, refl, ap, ◌∙◌}
 use mathlib.Core.List.{List, ◌++◌}
-use Prim.Native.Nat.{ℕ, ◌+◌, ◌-◌, ◌*◌, ◌/◌, ◌≤◌, ◌<◌}
+use Prim.Native.Nat.{ℕ, ◌+◌, ◌*◌, ◌/◌, ◌≤◌, ◌<◌}
 use native.Mathlib.Numerals.{add-one}
 use native.Mathlib.Omega.{arith}
 use borrow.Author.Rules.{rules}
-use lib.ListN.{length, drop, set, length-append, length-drop}
+use lib.ListN.{length, set, length-append, length-drop}
 use lib.Seq.{drop-cons, set_at, append_snoc}
 use Rattle.wire.specs.Word.{le32}
 use Rattle.wire.specs.Words.{words}
@@ -27,7 +27,6 @@ loop-i-init c = (search rules, refl)
 
 pub loop-i-preserved : goal.loop-i-preserved
 loop-i-preserved c =
-
     (search rules, ap (λ (l : List ℕ). set l c.loop-i.i c.read32.result) c.loop-i.invariant.1 ∙ more _ _ _ _ (omega arith) c.read32.ensures)
 
 pub returns : goal.returns

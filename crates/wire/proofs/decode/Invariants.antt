@@ -1,15 +1,9 @@
 -- `wire::decode` meets its contract. The words so far stand at the front, and what lies beyond them is as it was. Assumes nothing.
-use mathlib.Core.Path.{◌≡◌, refl, ap, ◌∙◌}
+use mathlib.Core.Path.{◌≡◌}
 use mathlib.Core.List.{List, ◌++◌}
-use Prim.Native.Nat.{ℕ, ◌+◌, ◌-◌, ◌*◌, ◌/◌, ◌≤◌, ◌<◌}
-use native.Mathlib.Numerals.{add-one}
-use native.Mathlib.Omega.{arith}
-use borrow.Author.Rules.{rules}
-use lib.ListN.{length, drop, set, length-append, length-drop}
-use lib.Seq.{drop-cons, set_at, append_snoc}
-use Rattle.wire.specs.Word.{le32}
+use Prim.Native.Nat.{ℕ, ◌/◌, ◌≤◌}
+use lib.ListN.{length, drop}
 use Rattle.wire.specs.Words.{words}
-use Rattle.wire.proofs.Words.{length_words, words_more}
 use Rattle.wire.proofs.decode.Given as goal
 
 abbrev pub filled : List ℕ → List ℕ → ℕ → List ℕ

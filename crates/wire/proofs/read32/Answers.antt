@@ -1,6 +1,5 @@
 -- `wire::read32` meets its contract: the word of the four bytes is the word at their place. Assumes nothing.
 use Rattle.wire.specs.Word.{le32}
-use borrow.Author.Rules.{rules}
 use Rattle.wire.proofs.read32.Goals as goal
 
 pub returns : goal.returns

@@ -1,8 +1,5 @@
 -- `wire::write32` meets its contract: the four stores are one put. Assumes nothing.
-use native.Mathlib.Omega.{arith}
-use lib.ListN.{length-set}
 use Rattle.wire.proofs.Stored.{stored}
-use borrow.Author.Rules.{rules}
 use Rattle.wire.proofs.write32.Goals as goal
 
 pub returns : goal.returns

@@ -8,11 +8,9 @@ use Rattle.base.proofs.First.{first_le}
 use Rattle.formula.specs.declared.Verdict.{Verdict}
 use Rattle.formula.specs.declared.Verdict.TheVariants.{Granted, Denied, Refused}
 use Rattle.formula.specs.declared.Moment.{Moment}
-use Rattle.formula.specs.declared.Moment.TheVariants.{Add, Join}
 use Rattle.evidence.specs.Evidence.{place_of, evidence_of}
 use Rattle.crossing.specs.declared.part.Part.{Part}
 use Rattle.crossing.specs.Part.{model_strip, sheet_strip, tail_part, evidence_part}
-use borrow.Author.Rules.{rules}
 use Rattle.crossing.proofs.part.evidence.Goals as goal
 
 abbrev part : ℕ → ℕ → ℕ → Part

@@ -1,10 +1,8 @@
 -- The part's length is that of `tick::tick_part`, its start the place that this call promises too.
 use mathlib.Core.Path.{ap, ap₂}
-use mathlib.Core.List.{List}
 use Prim.Native.Nat.{ℕ}
 use lib.ListN.{length}
 use Rattle.crossing.specs.declared.part.Part.{Part}
-use borrow.Author.Rules.{rules}
 use Rattle.crossing.proofs.part.records.Goals as goal
 
 abbrev part : ℕ → ℕ → Part

@@ -5,7 +5,6 @@ use mathlib.Core.List.{List}
 use Prim.Native.Nat.{ℕ}
 use borrow.Author.Tests.{not-true, not-false}
 use Rattle.tick.specs.Tick.{rising, place_from, tick_start}
-use borrow.Author.Rules.{rules}
 use mathlib.Core.Bool.{not}
 use mathlib.Core.Path.{ap}
 use Rattle.crossing.proofs.part.start.Goals as goal

@@ -1,14 +1,11 @@
 -- `delivery::granted::deliver` meets its contract: each return is one case of the answer, in the definition's order. Assumes nothing.
 use mathlib.Core.Path.{◌≡◌, sym, ap, ap₂, ◌∙◌}
-use mathlib.Core.Bool.{true}
 use mathlib.Core.List.{List}
-use Prim.Native.Nat.{ℕ, ◌≤◌, ◌<◌}
+use Prim.Native.Nat.{ℕ, ◌≤◌}
 use native.Mathlib.Omega.{arith}
 use lib.ListN.{length}
-use borrow.Author.Tests.{not-true, not-false}
 use Rattle.base.proofs.First.{first_le}
 use Rattle.rules.specs.Ranges.{sheets}
-use Rattle.store.specs.Store.{good_store}
 use Rattle.store.specs.Entry.{entry_fault}
 use Rattle.parts.specs.Granted.{granted_below}
 use Rattle.parts.specs.Fault.{faulty, first_faulty}
@@ -17,8 +14,6 @@ use Rattle.look.specs.declared.Checked.{Checked}
 use Rattle.delivery.specs.declared.Delivery.TheVariants.{Delivered, Refused}
 use Rattle.look.specs.Look.{checked}
 use Rattle.delivery.proofs.Answer.{promised, answer_number, answer_store, answer_sheet, answer_long, answer_delivered}
-use borrow.Author.Rules.{rules}
-use mathlib.Core.Bool.{not}
 use Rattle.delivery.proofs.granted.deliver.Goals as goal
 
 -- what the check's sums are where it went through all sheets

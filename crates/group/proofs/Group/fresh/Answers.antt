@@ -3,7 +3,6 @@ use native.Mathlib.Omega.{arith}
 use borrow.Author.Tests.{le-leb, lt-leb}
 use Rattle.rules.specs.Ranges.{groups}
 use Rattle.group.specs.Fresh.{fresh_answer}
-use borrow.Author.Rules.{rules}
 use Rattle.group.proofs.Group.fresh.Goals as goal
 
 pub returns-then-number-ge-GROUPS : goal.returns-then-number-ge-GROUPS

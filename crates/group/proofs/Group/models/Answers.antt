@@ -3,7 +3,6 @@ use borrow.Author.Tests.{lt-leb}
 use Rattle.base.proofs.Rules.{answers}
 use Rattle.bits.specs.Bit.{bit_in}
 use Rattle.group.specs.Count.{count_answer, models_granted}
-use borrow.Author.Rules.{rules}
 use Rattle.group.proofs.Group.models.Goals as goal
 
 pub returns-then-sheet-ge-SHEETS : goal.returns-then-sheet-ge-SHEETS

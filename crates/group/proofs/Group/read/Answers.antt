@@ -4,7 +4,6 @@ use borrow.Author.Tests.{lt-leb}
 use Rattle.base.proofs.Rules.{answers}
 use Rattle.bits.specs.Bit.{bit_in}
 use Rattle.group.specs.Read.{read_refusal, read_answer}
-use borrow.Author.Rules.{rules}
 use Rattle.group.proofs.Group.read.Goals as goal
 
 pub returns-then-model-ge-MODELS : goal.returns-then-model-ge-MODELS

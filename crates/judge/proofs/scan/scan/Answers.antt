@@ -1,14 +1,12 @@
-use mathlib.Core.Path.{◌≡◌}
-use Prim.Native.Nat.{ℕ, ◌+◌, ◌-◌, ◌<◌}
+use Prim.Native.Nat.{ℕ, ◌<◌}
 use native.Mathlib.Omega.{arith}
 use mathlib.Core.List.{List}
-use lib.ListN.{length, get_or}
+use lib.ListN.{get_or}
 use mir.Syntax.{w32}
 use mir.Val.{Fits}
 use Rattle.strip.proofs.Places.{tick_at}
-use Rattle.stepping.specs.Next.{never, head_of}
-use Rattle.stepping.proofs.Pass.{At, pass_start, at_end, by_model, by_sheet, by_both}
-use borrow.Author.Rules.{rules}
+use Rattle.stepping.specs.Next.{never}
+use Rattle.stepping.proofs.Pass.{pass_start, at_end, by_model, by_sheet, by_both}
 use Rattle.judge.proofs.scan.scan.Goals as goal
 
 -- a word's tick is below `never`

@@ -1,12 +1,9 @@
 -- The loop has taken the events up to some tick and knows the next of each strip; a turn takes those of the next tick.
 use mathlib.Core.Path.{◌≡◌}
-use Prim.Native.Nat.{◌+◌, ◌-◌, ◌<◌}
-use native.Mathlib.Omega.{arith}
+use Prim.Native.Nat.{◌+◌, ◌-◌}
 use lib.ListN.{length}
-use Rattle.strip.proofs.Places.{tick_at}
-use Rattle.stepping.specs.Next.{never, head_of}
-use Rattle.stepping.proofs.Pass.{At, pass_start, at_end, by_model, by_sheet, by_both}
-use borrow.Author.Rules.{rules}
+use Rattle.stepping.specs.Next.{head_of}
+use Rattle.stepping.proofs.Pass.{At}
 use Rattle.judge.proofs.scan.scan.Given as goal
 
 abbrev pub invariant-loop-i : goal.invariant-loop-i
