@@ -61,17 +61,18 @@ impl Input {
         [bytes, self.script.clone()].concat()
     }
 
-    /// The files of the input and those at the limits that the script names.
+    /// The files of the input; and those at the limits, and one whose name isn't UTF-8, that the script names.
     fn folder(&self) -> Folder {
         let own = NAMES.iter().map(|name| name.to_vec()).zip(self.files.clone());
         let is_end = |byte: &u8| *byte == b' ' || *byte == b'\n';
         let named = |name: &[u8]| self.script.split(is_end).any(|word| word == name);
-        let limits: [(&[u8], fn() -> Vec<u8>); 4] = [
+        let limits: [(&[u8], fn() -> Vec<u8>); 5] = [
             (b"over", || vec![0; STORE_BYTES + 2]),
             (b"long", || vec![0; BOOK_BYTES + 1]),
             (b"most", stores::largest),
             // two records more fit
             (b"full", || books::full_book(&books::book_of(0, 3, &[]), 4094).expect("a book")),
+            (b"a\xff", || books::book_of(0, 3, &[])),
         ];
         let limits = limits.into_iter().filter(|(name, _)| named(name));
         own.chain(limits.map(|(name, make)| (name.to_vec(), make()))).collect()

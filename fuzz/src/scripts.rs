@@ -14,7 +14,7 @@ pub fn mutate_script(script: &mut Vec<u8>, chance: &mut Chance) {
     let mut lines: Vec<Vec<u8>> = script.split(|&byte| byte == b'\n').map(<[u8]>::to_vec).collect();
     for _ in 0..=chance.below(4) {
         let at = chance.below(lines.len());
-        match chance.below(12) {
+        match chance.below(13) {
             0 | 1 if !lines.is_empty() => drop(lines.remove(at)),
             2 if !lines.is_empty() => mutate_bytes(&mut lines[at], 300),
             3 if !lines.is_empty() => lines[at] = line(chance).into_bytes(),
@@ -23,6 +23,8 @@ pub fn mutate_script(script: &mut Vec<u8>, chance: &mut Chance) {
                 lines.swap(at, other);
             }
             5 => repeat(&mut lines, at, chance),
+            // where the line ends in a file's name, that isn't UTF-8 any more
+            6 if !lines.is_empty() => lines[at].push(chance.pick(b"\xff\x80\xc3")),
             _ if lines.len() < USUAL_LINES => lines.insert(at, line(chance).into_bytes()),
             _ => lines.truncate(at),
         }

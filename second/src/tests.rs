@@ -14,6 +14,7 @@ use crate::spans::{listed, spans, spans_of_history, spans_tick_by_tick};
 use crate::spans_of_book::{spans_of_book, Asked};
 use crate::store::deliver;
 use crate::wrong::{spans_by, verdict_by, Reading, READINGS};
+use std::collections::BTreeMap;
 use std::mem::size_of;
 
 mod cause;
@@ -452,6 +453,42 @@ fn files_over_their_limit() {
 }
 
 #[test]
+fn file_names_that_are_not_utf_8() {
+    let store = [bytes(&[21, 1, 16, 5]), b"hello".to_vec()].concat();
+    let names: [&[u8]; 10] = [
+        b"\xff",
+        b"a\x80",
+        b"\xc3a",
+        b"a\xe2\x82",
+        b"\xc1\xbf",
+        b"\xe0\x9f\xbf",
+        b"\xed\xa0\x80",
+        b"\xf0\x8f\xbf\xbf",
+        b"\xf4\x90\x80\x80",
+        b"\xf8\x88\x80\x80\x80",
+    ];
+    for name in names {
+        let files = BTreeMap::from([b"sheets", name].map(|name| (name.to_vec(), store.clone())));
+        let mut keeper = Keeper::new(Memory { files: files.clone() }, Reading::Right);
+        let line = |command: &str| [command.as_bytes(), b" ", name].concat();
+        let cant_open = [b"can't open ", name, b"\n"].concat();
+        assert_eq!(keeper.answer(&line("store")), cant_open);
+        assert_eq!(keeper.answer(&line("deliver 0 8")), b"refused 31\n");
+        assert_eq!(keeper.answer(b"store sheets"), b"store 21\n");
+        for command in ["load", "store", "save", "deliver 0 8"] {
+            assert_eq!(keeper.answer(&line(command)), cant_open);
+        }
+        assert_eq!(keeper.answer(&line("deliver 64 8")), b"refused 2\n");
+        assert_eq!((&keeper.store, &keeper.files.files), (&store, &files));
+    }
+    for name in ["\u{80}", "\u{7ff}", "\u{800}", "\u{d7ff}", "\u{e000}", "\u{ffff}", "\u{10ffff}"] {
+        let script = format!("save {name}\nload {name}\nstore {name}\n");
+        let (output, _) = keep(&[], script.as_bytes());
+        assert_eq!(output, "saved 20\ngroup 0 ticks 0 records 0\nstore 20\n");
+    }
+}
+
+#[test]
 fn a_save_of_too_many_records() {
     let mut script = String::new();
     for tick in 0..65 {
@@ -459,9 +496,9 @@ fn a_save_of_too_many_records() {
         (0..64).for_each(|model| script += &format!("{kind} {model}\n"));
         script += "close\n";
     }
-    script += "save book\n";
-    let (output, memory) = keep(&[], script.as_bytes());
-    assert!(output.ends_with("closed 65\nrefused 22\n"));
+    let script = [script.as_bytes(), b"save book\nsave book\xff\n"].concat();
+    let (output, memory) = keep(&[], &script);
+    assert!(output.ends_with("closed 65\nrefused 22\nrefused 22\n"));
     assert!(memory.files.is_empty());
 }
 

@@ -32,6 +32,8 @@ struct Author<'a> {
 
 const BOOKS: u32 = 3;
 const STORES: u32 = 3;
+/// A file that is there and can't be opened: its name is not UTF-8.
+const NOT_UTF_8: &[u8] = b"book\xff";
 
 pub fn script(chance: &mut Chance) -> Case {
     let manner = manner(chance);
@@ -82,17 +84,23 @@ impl Author<'_> {
             };
             self.lay_out(format!("store{number}"), store);
         }
+        self.lay_out(NOT_UTF_8, self.case.file(b"book0").to_vec());
     }
 
-    fn lay_out(&mut self, name: String, bytes: Vec<u8>) {
-        self.keeper.files.files.insert(name.clone().into_bytes(), bytes.clone());
-        self.case.add_file(Run::Both, name.as_bytes(), bytes);
+    fn lay_out(&mut self, name: impl AsRef<[u8]>, bytes: Vec<u8>) {
+        let name = name.as_ref();
+        self.keeper.files.files.insert(name.to_vec(), bytes.clone());
+        self.case.add_file(Run::Both, name, bytes);
     }
 
     fn say(&mut self, line: impl AsRef<[u8]>) {
         let line = line.as_ref();
         self.keeper.answer(line);
         self.case.add_line(Run::Both, line);
+    }
+
+    fn say_of_file(&mut self, command: &str, name: &[u8]) {
+        self.say([command.as_bytes(), b" ", name].concat());
     }
 
     fn begin(&mut self) {
@@ -213,33 +221,36 @@ impl Author<'_> {
             8 => self.chance.one_of(&[0, 7, 8, 9, DELIVERY_BUFFER + 1, u32::MAX]),
             _ => self.chance.within(0..=100),
         };
-        let name = self.chance.one_of(&["d0", "d1", "d2", "store0", "book0", ".", "none/d"]);
-        self.say(format!("deliver {model} {buffer} {name}"));
+        let names: [&[u8]; 8] =
+            [b"d0", b"d1", b"d2", b"store0", b"book0", b".", b"none/d", NOT_UTF_8];
+        let name = self.chance.one_of(&names);
+        self.say_of_file(&format!("deliver {model} {buffer}"), name);
     }
 
     fn take_store(&mut self) {
         let name = self.a_file("store", STORES);
-        self.say(format!("store {name}"));
+        self.say_of_file("store", &name);
     }
 
     fn load(&mut self) {
         let name = self.a_file("book", BOOKS);
-        self.say(format!("load {name}"));
+        self.say_of_file("load", &name);
     }
 
     fn save(&mut self) {
-        let name = self.chance.one_of(&["book0", "book1", "saved", "saved", ".", "none/b"]);
-        self.say(format!("save {name}"));
+        let names: [&[u8]; 7] =
+            [b"book0", b"book1", b"saved", b"saved", b".", b"none/b", NOT_UTF_8];
+        let name = self.chance.one_of(&names);
+        self.say_of_file("save", name);
     }
 
     /// Mostly one of the files of its kind; sometimes another, or one that can't be opened.
-    fn a_file(&mut self, kind: &str, count: u32) -> String {
+    fn a_file(&mut self, kind: &str, count: u32) -> Vec<u8> {
+        let others: [&[u8]; 8] =
+            [b"none", b".", b"d0", b"store0", b"book0", b"none/x", b"saved", NOT_UTF_8];
         match self.chance.within(0..=19) {
-            0 => self
-                .chance
-                .one_of(&["none", ".", "d0", "store0", "book0", "none/x", "saved"])
-                .to_string(),
-            _ => format!("{kind}{}", self.chance.within(0..=count - 1)),
+            0 => self.chance.one_of(&others).to_vec(),
+            _ => format!("{kind}{}", self.chance.within(0..=count - 1)).into_bytes(),
         }
     }
 
@@ -321,6 +332,7 @@ pub fn script_beyond_a_book(chance: &mut Chance) -> Case {
     for line in ["save full", "load full", "models 0", "SA 0", "close", "save full", "load full"] {
         case.add_line(Run::Both, line.as_bytes());
     }
+    case.add_line(Run::Both, &[b"save ", NOT_UTF_8].concat());
     let sheet = chance.within(0..=SHEETS - 1);
     case.add_line(Run::Both, format!("models {sheet}").as_bytes());
     case
