@@ -96,7 +96,7 @@ pub record PromisesDetermine : Type 0 where
   -- judge::judge
   pub judge : (m s : List ℕ) (now : ℕ) → Once Verdict (Judges m s now)
   -- judge
-  pub judge_bytes_lem : (m s : List ℕ) (now : ℕ) → Once ℕ (λ r. r ≡ packed (judged_from m s now))
+  pub judge_of_bytes : (m s : List ℕ) (now : ℕ) → Once ℕ (λ r. r ≡ packed (judged_from m s now))
   -- loader::judged
   pub judged : (m s : List ℕ) (now : ℕ) → Once Verdict (λ r. r ≡ judged_from m s now)
   -- loader::pack
@@ -248,7 +248,7 @@ promises_determine = record {
   models = λ g s. one (count_answer g s);
   mask = λ gs m s. one (mask_answer gs m s);
   judge = λ m s now r t p q. p.answer ∙ sym q.answer;
-  judge_bytes_lem = λ m s now. one (packed (judged_from m s now));
+  judge_of_bytes = λ m s now. one (packed (judged_from m s now));
   judged = λ m s now. one (judged_from m s now);
   pack = λ v. one (packed v);
   evidence = λ m s now. two (evidence_of (judged_by m.now s.now now) m.now s.now) (start_of (judged_by m.now s.now now) m s);

@@ -12,7 +12,7 @@ use Rattle.base.proofs.Truth.{both, either}
 use Rattle.rules.specs.Ranges.{ticks, events}
 use Rattle.rules.specs.Refusals.{late_now, long_model, long_sheet, bad_model, bad_sheet}
 use Rattle.formula.specs.Formula.{History}
-use Rattle.formula.specs.Judged.{Judged, by_add_lem, by_join_lem, none as no-moment, strict_leave, strict_remove}
+use Rattle.formula.specs.Judged.{Judged, granted_by_add, granted_by_join, none as no-moment, strict_leave, strict_remove}
 use Rattle.formula.specs.Verdict.{verdict}
 use Rattle.formula.proofs.Judged.{judged}
 use Rattle.formula.specs.declared.Verdict.{Verdict}
@@ -35,8 +35,8 @@ answered : (model sheet : History) (now : ℕ) → refused_verdict (verdict mode
 answered model sheet now = go (judged model sheet now)
   where
     go : {v : Verdict} → Judged model sheet now v → refused_verdict v ≡ none
-    go (by_add_lem t g l a) = refl
-    go (by_join_lem t g l a) = refl
+    go (granted_by_add t g l a) = refl
+    go (granted_by_join t g l a) = refl
     go (no-moment h) = refl
     go (strict_leave t e g l r a) = refl
     go (strict_remove t e g l r a) = refl

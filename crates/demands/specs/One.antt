@@ -35,7 +35,7 @@ pub record DemandOne (G : Gate Group) : Type 0 where
   pub mask : (gs : List Group) (m s : ℕ) → Refuses (mask_lines (length gs) m s) (plain (G.mask gs m s).code) ((G.mask gs m s).mask ≡ 0)
   -- a refused judgement has no evidence; from C it is the number with its place, and else the judge's verdict on the words
   pub judge : (m s : List ℕ) (now : ℕ) → Refuses (judge_lines m s now) (refused_verdict (G.judge m s now)) (G.evidence m s now ≡ [])
-  pub judge_bytes_lem : (m s : List ℕ) (now : ℕ) → let refusal = first_met (bytes_lines m s now) in
+  pub judge_of_bytes : (m s : List ℕ) (now : ℕ) → let refusal = first_met (bytes_lines m s now) in
       G.judge_bytes m s now ≡ cond (eqb refusal.number 0) (packed (G.judge (words_in m) (words_in s) now)) (refusal.number * 2 ^ 32 + refusal.place)
   -- refused spans leave every number of the list
   pub spans : (m s : List ℕ) (now : ℕ) (list : List ℕ) → let a = G.spans m s now list in

@@ -13,7 +13,7 @@ use Rattle.base.proofs.First.{first_is}
 use Rattle.rules.specs.Kinds.{quiet, SA, LA, LJ}
 use Rattle.event.specs.Word.{kind_of}
 use Rattle.formula.specs.Formula.{ByAdd, ByJoin}
-use Rattle.formula.specs.Judged.{Judged, by_add_lem, by_join_lem, none, strict_leave, strict_remove}
+use Rattle.formula.specs.Judged.{Judged, granted_by_add, granted_by_join, none, strict_leave, strict_remove}
 use Rattle.formula.specs.declared.Verdict.{Verdict}
 use Rattle.formula.specs.declared.Verdict.TheVariants.{Granted}
 use Rattle.formula.specs.declared.Moment.TheVariants.{Add, Join}
@@ -40,15 +40,15 @@ located s r k t n e =
 
 module _ (m s : List ℕ) (now : ℕ) (a : StripsAccepted m s now) (t : ℕ) where
   moment_add : (v : Verdict) → Judged (history_of m) (history_of s) now v → v ≡ Granted (Add t) → ByAdd (history_of m) (history_of s) t
-  moment_add v (by_add_lem u g l b) e = let q : u ≡ t = cc e in rw (← q) b
-  moment_add v (by_join_lem u g l b) e = absurd (true≢false (cc e))
+  moment_add v (granted_by_add u g l b) e = let q : u ≡ t = cc e in rw (← q) b
+  moment_add v (granted_by_join u g l b) e = absurd (true≢false (cc e))
   moment_add v (none h) e = absurd (true≢false (cc e))
   moment_add v (strict_leave u w g l r b) e = absurd (true≢false (cc e))
   moment_add v (strict_remove u w g l r b) e = absurd (true≢false (cc e))
 
   moment_join : (v : Verdict) → Judged (history_of m) (history_of s) now v → v ≡ Granted (Join t) → ByJoin (history_of m) (history_of s) t
-  moment_join v (by_join_lem u g l b) e = let q : u ≡ t = cc e in rw (← q) (⊎_elim (λ x. absurd (b x)) (λ y. y) l.there)
-  moment_join v (by_add_lem u g l b) e = absurd (true≢false (cc e))
+  moment_join v (granted_by_join u g l b) e = let q : u ≡ t = cc e in rw (← q) (⊎_elim (λ x. absurd (b x)) (λ y. y) l.there)
+  moment_join v (granted_by_add u g l b) e = absurd (true≢false (cc e))
   moment_join v (none h) e = absurd (true≢false (cc e))
   moment_join v (strict_leave u w g l r b) e = absurd (true≢false (cc e))
   moment_join v (strict_remove u w g l r b) e = absurd (true≢false (cc e))

@@ -1,4 +1,4 @@
-// The gate for C. Each export is its call with the same promise; enums and parts of lists cross as numbers.
+// The gate as C has it: each call with its promise, where enums and parts of lists cross as numbers. `ferrulebee_c` exports them.
 // Here the judge: plain numbers and slices in, one number out.
 #![tactic(auto)]
 

@@ -17,7 +17,7 @@ use Rattle.formula.specs.declared.Cause.TheVariants.{None, StrictLeave, StrictRe
 use Rattle.formula.specs.Formula.{History, Moment, Strict, Grant}
 use Rattle.formula.specs.Ticks.{by_add, moment, strict, grant}
 use Rattle.formula.specs.Verdict.{latest, earliest, granted_at, denied, verdict}
-use Rattle.formula.specs.Judged.{Latest, Earliest, Judged, by_add_lem, by_join_lem, none, strict_leave, strict_remove}
+use Rattle.formula.specs.Judged.{Latest, Earliest, Judged, granted_by_add, granted_by_join, none, strict_leave, strict_remove}
 use Rattle.formula.proofs.Says.{Says, says_not}
 use Rattle.formula.proofs.Held.{grant_moment, kept}
 use Rattle.formula.proofs.Meaning.{means_add, means_moment, means_strict, means_grant}
@@ -132,8 +132,8 @@ module _ (model sheet : History) where
   caused e b q = rw q
 
   pub judged_is : (now : ℕ) {v : Verdict} → Judged model sheet now v → v ≡ verdict model sheet now
-  judged_is now (by_add_lem t g l a) = sym (is_granted now t g (latest_is now t l) ∙ named t true ((means_add model sheet t).1 a))
-  judged_is now (by_join_lem t g l a) = sym (is_granted now t g (latest_is now t l) ∙ named t false (unsaid (means_add model sheet t) a))
+  judged_is now (granted_by_add t g l a) = sym (is_granted now t g (latest_is now t l) ∙ named t true ((means_add model sheet t).1 a))
+  judged_is now (granted_by_join t g l a) = sym (is_granted now t g (latest_is now t l) ∙ named t false (unsaid (means_add model sheet t) a))
   judged_is now (none h) = sym (is_none now (λ g. grant_moment model sheet now g h) (latest_none now h))
   judged_is now (strict_leave t e g l r a) =
       sym (is_denied now t e g l.from (latest_is now t l) (earliest_is now t e r) ∙ caused e true (eq-eqb _ _ a))
@@ -145,8 +145,8 @@ module _ (model sheet : History) where
       (λ y.
       let g = (means_grant model sheet now).0 y in
       ⊎_elim
-      (λ a. (Granted (Add t), by_add_lem t g l ((means_add model sheet t).0 a)))
-      (λ b. (Granted (Join t), by_join_lem t g l (says_not (means_add model sheet t) b)))
+      (λ a. (Granted (Add t), granted_by_add t g l ((means_add model sheet t).0 a)))
+      (λ b. (Granted (Join t), granted_by_join t g l (says_not (means_add model sheet t) b)))
       (either (by_add model sheet t)))
       (λ z.
       let g = says_not (means_grant model sheet now) z in

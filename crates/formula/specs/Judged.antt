@@ -22,8 +22,8 @@ pub record Earliest (model sheet : History) (t now e : ℕ) : Type 0 where
 
 pub data Judged (model sheet : History) (now : ℕ) : Verdict → Type 0 where
   -- granted: the formula holds, and the latest moment is given, by add where it is by add
-  by_add_lem : (t : ℕ) → Grant model sheet now → Latest model sheet now t → ByAdd model sheet t → Judged model sheet now (Granted (Add t))
-  by_join_lem : (t : ℕ) → Grant model sheet now → Latest model sheet now t → ¬ ByAdd model sheet t → Judged model sheet now (Granted (Join t))
+  granted_by_add : (t : ℕ) → Grant model sheet now → Latest model sheet now t → ByAdd model sheet t → Judged model sheet now (Granted (Add t))
+  granted_by_join : (t : ℕ) → Grant model sheet now → Latest model sheet now t → ¬ ByAdd model sheet t → Judged model sheet now (Granted (Join t))
   -- denied: no moment ever, or the earliest strict event after the latest moment with its tick, SL looked at first
   none : ((t : ℕ) → 1 ≤ t → t ≤ now → ¬ Moment model sheet t) → Judged model sheet now (Denied None)
   strict_leave : (t e : ℕ) → ¬ Grant model sheet now → Latest model sheet now t → Earliest model sheet t now e → SL model sheet e

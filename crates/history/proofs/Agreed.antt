@@ -159,7 +159,7 @@ module _ (g : Group) (t : ℕ) (ws : List ℕ) (a : Agreed g t ws) where
       let hs = carried_marks g t ws Sheet s b cs in
       let was = grant_same M (told Model m t ws) S (told Sheet s t ws) t (carried_before g t ws Model m l cm) (carried_before g t ws Sheet s b cs) in
       let join = eqb (M (suc t)) LJ in
-      let by_join_lem = liberal S (suc t) && join in
+      let by_joins = liberal S (suc t) && join in
       closed_granted g a.fits m s b
       ∙ simp (
         hm LJ (omega arith) refl,
@@ -172,7 +172,7 @@ module _ (g : Group) (t : ℕ) (ws : List ℕ) (a : Agreed g t ws) where
         closed_liberal_lem s b,
         sym was,
       ) (
-      regroup (eqb (S (suc t)) SR) (eqb (M (suc t)) SL) (grant M S t) (is_add (S (suc t)) && inside M (suc t)) by_join_lem
+      regroup (eqb (S (suc t)) SR) (eqb (M (suc t)) SL) (grant M S t) (is_add (S (suc t)) && inside M (suc t)) by_joins
       ∙ rw (grant_moves M S t, and_comm join (liberal S (suc t))))
 
   closed_agreed : t < ticks → Agreed (closed_group g) (suc t) ws

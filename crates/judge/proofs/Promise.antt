@@ -9,7 +9,7 @@ use borrow.Author.Tests.{eqb-true, eqb-false}
 use Rattle.base.proofs.Truth.{either}
 use Rattle.formula.specs.Formula.{Grant}
 use Rattle.formula.specs.Verdict.{verdict}
-use Rattle.formula.specs.Judged.{Judged, by_add_lem, by_join_lem, none, strict_leave, strict_remove}
+use Rattle.formula.specs.Judged.{Judged, granted_by_add, granted_by_join, none, strict_leave, strict_remove}
 use Rattle.formula.specs.declared.Verdict.{Verdict}
 use Rattle.formula.specs.declared.Cause.{Cause}
 use Rattle.formula.specs.declared.Verdict.TheVariants.{Granted, Denied, Refused}
@@ -35,8 +35,8 @@ module _ (m s : List ℕ) (now : ℕ) (a : StripsAccepted m s now) where
   Grants v = (x : Moment) × (v ≡ Granted x)
 
   only : (v : Verdict) → Judged (history_of m) (history_of s) now v → Grants v ↔ Grant (history_of m) (history_of s) now
-  only v (by_add_lem t g l b) = (λ x. g, λ x. (Add t, refl))
-  only v (by_join_lem t g l b) = (λ x. g, λ x. (Join t, refl))
+  only v (granted_by_add t g l b) = (λ x. g, λ x. (Add t, refl))
+  only v (granted_by_join t g l b) = (λ x. g, λ x. (Join t, refl))
   only v (none h) = (
     λ x. absurd (true≢false (cc x.1)),
     λ g. absurd (grant_moment (history_of m) (history_of s) now g h),

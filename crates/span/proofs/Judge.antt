@@ -10,7 +10,7 @@ use lib.Dec.{ltb}
 use borrow.Author.Tests.{ltb-true, ltb-false}
 use Rattle.base.proofs.Truth.{either}
 use Rattle.formula.specs.Formula.{Grant}
-use Rattle.formula.specs.Judged.{Judged, Latest, Earliest, by_add_lem, by_join_lem, none, strict_leave, strict_remove}
+use Rattle.formula.specs.Judged.{Judged, Latest, Earliest, granted_by_add, granted_by_join, none, strict_leave, strict_remove}
 use Rattle.formula.specs.declared.Cause.TheVariants.{None, StrictLeave, StrictRemove}
 use Rattle.formula.specs.declared.Moment.{Moment}
 use Rattle.formula.specs.declared.Verdict.{Verdict}
@@ -59,8 +59,8 @@ module _ (m s : List ℕ) (now : ℕ) (a : StripsAccepted m s now) (l : List Spa
       record { span = p.0; last = p.1; ends = omega (arith, p.2); before = earliest.upto }
 
   told : (v : Verdict) → Judged (history_of m) (history_of s) now v → VerdictSays l now v
-  told v (by_add_lem t g r b) = open_since t g r
-  told v (by_join_lem t g r b) = open_since t g r
+  told v (granted_by_add t g r b) = open_since t g r
+  told v (granted_by_join t g r b) = open_since t g r
   told v (none h) = no_pair now 0 l x.apart (λ t from upto y. grant_moment (history_of m) (history_of s) t ((x.exactly t from upto).0 y) (λ i c d. h i c (omega arith)))
   told v (strict_leave t e g r z b) = over_at t e r z
   told v (strict_remove t e g r z b) = over_at t e r z

@@ -31,7 +31,7 @@ module _ (model sheet : History) where
 
   -- ---- what each standing says of the ticks up to t
   abbrev Held : ℕ → ℕ → Bool → Type 0
-  Held t k by_add_lem = (grant model sheet t ≡ true) × (latest model sheet t ≡ k) × (1 ≤ k) × (earliest model sheet k t ≡ suc t) × (by_add model sheet k ≡ by_add_lem)
+  Held t k by_adds = (grant model sheet t ≡ true) × (latest model sheet t ≡ k) × (1 ≤ k) × (earliest model sheet k t ≡ suc t) × (by_add model sheet k ≡ by_adds)
 
   abbrev Ended : ℕ → ℕ → Bool → Type 0
   Ended t e by_leave =

@@ -87,7 +87,7 @@ misnames = says_other misnaming (105 * 2 ^ 32 + 8) refl refl
 -- from C: demand 1 gives the number by the judge's verdict, which is ours
 undates_for : (n k : ℕ) → undated_in_c.judge_bytes (bytes model) (bytes sheet) now ≡ n → ours.judge_bytes (bytes model) (bytes sheet) now ≡ k → eqb n k ≡ false
     → DemandOne undated_in_c → ⊥
-undates_for n k e f differ d = eqb-false n k differ (sym e ∙ d.judge_bytes_lem (bytes model) (bytes sheet) now ∙ sym (demand_one.judge_bytes_lem (bytes model) (bytes sheet) now) ∙ f)
+undates_for n k e f differ d = eqb-false n k differ (sym e ∙ d.judge_of_bytes (bytes model) (bytes sheet) now ∙ sym (demand_one.judge_of_bytes (bytes model) (bytes sheet) now) ∙ f)
 
 pub undates_in_c : DemandOne undated_in_c → ⊥
 unfolding bytes bytes32 words le32 first since inside liberal by_add by_join grant latest earliest granted_at denied verdict tick_before good_place first_bad history_of
