@@ -1,4 +1,4 @@
-// The event book for C: reader, writer, and the records of one tick as a part of the lent list.
+// The exports of the event book: the calls of `ferrulebee::book_calls` under their names in C.
 ghost use Rattle.std.specs.Prelude.{◌≡◌, length};
 ghost use Rattle.book.specs.Read.{book_read, list_read};
 ghost use Rattle.book.specs.Write.{book_written, buffer_written};

@@ -1,4 +1,4 @@
-// The delivery for C: its three numbers, beside the buffer that it is written to.
+// The export of the delivery: the call of `ferrulebee::deliver` under its name in C.
 ghost use Rattle.std.specs.Prelude.{◌≡◌, length};
 ghost use Rattle.delivery.specs.Answer.{answer, buffer_after};
 ghost use Rattle.crossing.specs.Delivered.{delivery_numbers};

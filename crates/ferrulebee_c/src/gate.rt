@@ -1,4 +1,4 @@
-// The running gate for C: a group goes in by value and comes back by value.
+// The exports of the running gate: the calls of `ferrulebee::gate` under their names in C.
 ghost use Rattle.std.specs.Prelude.{◌≡◌};
 ghost use Rattle.group.specs.Fresh.{fresh_answer};
 ghost use Rattle.group.specs.Request.{request_answer};

@@ -1,4 +1,4 @@
-// What is told of two strips, for C: the evidence of a grant and the spans.
+// The exports on two strips: the calls of `ferrulebee::strips` under their names in C.
 ghost use Rattle.std.specs.Prelude.{◌≡◌, length};
 ghost use Rattle.crossing.specs.Part.{evidence_part};
 ghost use Rattle.judge.specs.Judge.{judged_by};
