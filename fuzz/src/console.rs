@@ -1,6 +1,6 @@
 //! What the gate's programs reach when they call C: standard input and output and one folder, all in
 //! memory, so that no input can reach a file of the machine. The gate's object has these in the
-//! place of read, write, close and the kit's calls that open a file.
+//! place of read, write, open and close, and of the kit's calls for arguments and errors.
 
 use crate::common::differs;
 use std::cell::RefCell;
@@ -14,6 +14,13 @@ pub const FULL: u8 = b'!';
 pub const BROKEN: u8 = b'~';
 
 const FIRST_FILE: i32 = 3;
+
+// Linux's numbers.
+const READS: i32 = 0;
+const READS_OR_WRITES: i32 = 3;
+const NO_SUCH_FILE: i32 = 2;
+const BROKEN_DISK: i32 = 5;
+const FULL_DISK: i32 = 28;
 
 struct Open {
     name: Vec<u8>,
@@ -191,7 +198,7 @@ fn with<T>(call: impl FnOnce(&mut Console) -> T) -> T {
 #[no_mangle]
 pub unsafe extern "C" fn gate_read(fd: i32, buffer: *mut u8, most: usize) -> isize {
     match with(|console| console.read(fd, most)) {
-        None => -1,
+        None => failed(BROKEN_DISK),
         Some(bytes) => {
             std::ptr::copy_nonoverlapping(bytes.as_ptr(), buffer, bytes.len());
             bytes.len() as isize
@@ -204,7 +211,16 @@ pub unsafe extern "C" fn gate_read(fd: i32, buffer: *mut u8, most: usize) -> isi
 #[no_mangle]
 pub unsafe extern "C" fn gate_write(fd: i32, bytes: *const u8, length: usize) -> isize {
     let bytes = crate::common::lent(bytes, length);
-    with(|console| console.write(fd, bytes))
+    match with(|console| console.write(fd, bytes)) {
+        -1 => failed(FULL_DISK),
+        written => written,
+    }
+}
+
+/// What a call answers that fails, and why.
+fn failed(why: i32) -> isize {
+    rattle_set_errno(why);
+    -1
 }
 
 #[no_mangle]
@@ -216,17 +232,12 @@ pub extern "C" fn gate_close(fd: i32) -> i32 {
 /// # Safety
 /// The path ends with a zero byte.
 #[no_mangle]
-pub unsafe extern "C" fn rattle_open_to_read(path: *const i8) -> i32 {
+pub unsafe extern "C" fn gate_open(path: *const i8, how: i32, _mode: u32) -> i32 {
     let name = std::ffi::CStr::from_ptr(path.cast()).to_bytes();
-    with(|console| console.open(name, false))
-}
-
-/// # Safety
-/// The path ends with a zero byte.
-#[no_mangle]
-pub unsafe extern "C" fn rattle_open_to_overwrite(path: *const i8, _mode: u32) -> i32 {
-    let name = std::ffi::CStr::from_ptr(path.cast()).to_bytes();
-    with(|console| console.open(name, true))
+    match with(|console| console.open(name, how & READS_OR_WRITES != READS)) {
+        -1 => failed(NO_SUCH_FILE) as i32,
+        fd => fd,
+    }
 }
 
 #[no_mangle]
@@ -237,12 +248,6 @@ pub extern "C" fn rattle_set_errno(error: i32) {
 #[no_mangle]
 pub extern "C" fn rattle_errno() -> i32 {
     with(|console| console.error)
-}
-
-/// The program's own name among them.
-#[no_mangle]
-pub extern "C" fn rattle_arg_count() -> usize {
-    with(|console| 1 + console.arguments.len())
 }
 
 /// An argument's length, with the argument at the start of the buffer; -1 where there is none; -2 where
