@@ -156,7 +156,7 @@ pub record PromisesDetermine : Type 0 where
   -- bits::after_word
   pub after_word_lem : (was gone come : ℕ) → Once ℕ (λ r. r ≡ after_word was gone come)
   -- bits::next_bit
-  pub next_bit : (w from : ℕ) → Once ℕ (λ r. r ≡ next_bit w from)
+  pub next_bit_lem : (w from : ℕ) → Once ℕ (λ r. r ≡ next_bit w from)
   -- bits::choose
   pub choose : (when : Bool) (a b : ℕ) → Once ℕ (λ r. r ≡ cond when a b)
   -- bits::count
@@ -271,7 +271,7 @@ promises_determine = record {
   records_numbers = λ ws t. one (records_part ws t);
   evidence_numbers = λ m s now. one (evidence_part (judged_by m s now) m s);
   after_word_lem = λ was gone come. one (after_word was gone come);
-  next_bit = λ w from. one (next_bit w from);
+  next_bit_lem = λ w from. one (next_bit w from);
   choose = λ when a b. one (cond when a b);
   count_bits = λ w. one (how_many (bit w) width);
   set_either = λ xs ys. one (either 4 xs ys);

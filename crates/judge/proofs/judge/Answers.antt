@@ -21,12 +21,12 @@ returns-then-checked-ne0 c =
 
 pub scan-seen-requires : goal.scan-seen-requires
 scan-seen-requires c =
-    let x = (check_accepts _ _ _ (sym (ap (λ (x : Checked). x.code) c.check-checked.ensures) ∙ c.if-checked-ne0.false)) in
+    let x = check_accepts _ _ _ (sym (ap (λ (x : Checked). x.code) c.check-checked.ensures) ∙ c.if-checked-ne0.false) in
     (good_rising _ _ _ x.good_m, good_rising _ _ _ x.good_s, x.short_m, x.short_s)
 
 pub returns : goal.returns
 returns c =
-    let x = (check_accepts _ _ _ (sym (ap (λ (x : Checked). x.code) c.check-checked.ensures) ∙ c.if-checked-ne0.false)) in
+    let x = check_accepts _ _ _ (sym (ap (λ (x : Checked). x.code) c.check-checked.ensures) ∙ c.if-checked-ne0.false) in
     judges _ _ _ _
     (c.told.ensures
     ∙ ap (λ (y : Seen). told_by y.standing) (c.scan-seen.ensures c.args.now (good_upto _ _ _ x.good_m) (good_upto _ _ _ x.good_s))

@@ -4,7 +4,7 @@ use mathlib.Core.Bool.{true, not}
 use Prim.Native.Nat.{ℕ, ◌/◌, ◌%◌, ◌*◌, ◌≤◌}
 use native.Mathlib.Omega.{arith}
 use lib.Dec.{eqb}
-use borrow.Author.Tests.{le-ltb, leb-true, not-false}
+use borrow.Author.Tests.{le-ltb, leb-true}
 use Rattle.base.proofs.Rules.{answers}
 use Rattle.base.proofs.Truth.{both}
 use Rattle.rules.specs.Ranges.{events}
@@ -28,7 +28,7 @@ returns-then-not-whole-2 c =
 
 pub on_words-requires : goal.on_words-requires
 on_words-requires c =
-    (short _ (sym c.whole.ensures ∙ not-false _ (ap not c.if-not-whole.false)), short _ (sym c.whole-2.ensures ∙ not-false _ (ap not c.if-not-whole-2.false)))
+    (short _ (sym c.whole.ensures ∙ c.if-not-whole.false), short _ (sym c.whole-2.ensures ∙ c.if-not-whole-2.false))
 
 pub returns : goal.returns
 returns c =

@@ -50,11 +50,11 @@ pairs-count-requires c = (check_accepts _ _ _ (sym (ap (λ (x : Checked). x.code
 
 pub returns-then-list-count : goal.returns-then-list-count
 returns-then-list-count c =
-    let x = (check_accepts _ _ _ (sym (ap (λ (x : Checked). x.code) c.check-checked.ensures) ∙ c.if-checked-ne0.false)) in
-    let long = ap length ((c.pairs-count.ensures.1 ∙ no_room _ [] 0 (omega arith))) in
+    let x = check_accepts _ _ _ (sym (ap (λ (x : Checked). x.code) c.check-checked.ensures) ∙ c.if-checked-ne0.false) in
+    let long = ap length (c.pairs-count.ensures.1 ∙ no_room _ [] 0 (omega arith)) in
     let h : length c.args.list.now < 2 * length (spans_in c.args.m.now c.args.s.now c.args.now) = omega (arith, c.pairs-count.ensures.0, c.if-list-count.true) in (
       sym (answer_crowded c.args.m.now c.args.s.now c.args.now x (length c.args.list.now) h),
-      ap (λ (l : List ℕ). l ++ c.args.list.now) ((c.pairs-count.ensures.1 ∙ no_room _ [] 0 (omega arith))) ∙ sym (list_crowded c.args.m.now c.args.s.now c.args.now x c.args.list.now h),
+      ap (λ (l : List ℕ). l ++ c.args.list.now) (c.pairs-count.ensures.1 ∙ no_room _ [] 0 (omega arith)) ∙ sym (list_crowded c.args.m.now c.args.s.now c.args.now x c.args.list.now h),
     )
 
 pub pairs-requires-2 : goal.pairs-requires-2

@@ -3,10 +3,7 @@ use mathlib.Core.Path.{◌≡◌, refl, sym, ◌∙◌}
 use mathlib.Core.Bool.{true, false}
 use mathlib.Core.List.{List}
 use Prim.Native.Nat.{ℕ}
-use borrow.Author.Tests.{not-true, not-false}
 use Rattle.tick.specs.Tick.{rising, place_from, tick_start}
-use mathlib.Core.Bool.{not}
-use mathlib.Core.Path.{ap}
 use Rattle.crossing.proofs.part.start.Goals as goal
 
 start-falling : (ws : List ℕ) (t : ℕ) → rising ws ≡ false → 0 ≡ tick_start ws t
@@ -18,7 +15,7 @@ unfolding tick_start
 start-rising ws t e = rw e refl
 
 pub returns-then-not-is_rising : goal.returns-then-not-is_rising
-returns-then-not-is_rising c = start-falling _ _ (sym c.is_rising.ensures ∙ not-true _ (ap not c.if-not-is_rising.true))
+returns-then-not-is_rising c = start-falling _ _ (sym c.is_rising.ensures ∙ c.if-not-is_rising.true)
 
 pub returns : goal.returns
-returns c = c.place_from.ensures.0 ∙ start-rising _ _ (sym c.is_rising.ensures ∙ not-false _ (ap not c.if-not-is_rising.false))
+returns c = c.place_from.ensures.0 ∙ start-rising _ _ (sym c.is_rising.ensures ∙ c.if-not-is_rising.false)
