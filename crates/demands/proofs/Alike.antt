@@ -26,7 +26,8 @@ use Rattle.demands.specs.Alike.{shared, answers_of, Agreeing, Alike, done, both,
 use Rattle.demands.specs.Gated.{Granting, Gated}
 use Rattle.demands.specs.Ours.{ours}
 use Rattle.demands.proofs.Gates.{fresh_gated}
-use Rattle.demands.proofs.Seen.{unseen, same_answers, same_after, same_delivery, next_fits}
+use Rattle.demands.proofs.Unseen.{unseen}
+use Rattle.demands.proofs.Seen.{same_answers, same_after, same_delivery, next_fits}
 
 -- ---- somewhere on a run from a fresh group
 

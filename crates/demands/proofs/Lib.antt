@@ -19,3 +19,4 @@ pub mod Shared
 pub mod Spans
 pub mod Three
 pub mod Two
+pub mod Unseen

@@ -64,7 +64,7 @@ module _ (m : ℕ) where
 
   -- ---- what isn't shared
 
-  other_request : (g : Group) (kind n : ℕ) → shared m (request kind n) ≡ false → view m (request_answer g kind n).group ≡ view m g
+  pub other_request : (g : Group) (kind n : ℕ) → shared m (request kind n) ≡ false → view m (request_answer g kind n).group ≡ view m g
   unfolding shared
   other_request g kind n f =
       let p = neither (for_sheet kind) (eqb n m) f in
@@ -74,14 +74,6 @@ module _ (m : ℕ) where
       let above = no_kind kind p.0 o in
       ap (view m) (request_refused g kind n (λ e. omega (arith, (accepted g kind n e).known))))
       (either (of_model kind))
-
-  pub unseen : (r : Run Group) (c : Call) → shared m c ≡ false → view m (next ours r c).group ≡ view m r.group
-  unfolding shared next
-  unseen r (request kind n) f = other_request r.group kind n f
-  unseen r close f = absurd (true≢false f)
-  unseen r (read n s) f = refl
-  unseen r (count s) f = refl
-  unseen r (deliver n store out) f = refl
 
   -- ---- what is shared
 
