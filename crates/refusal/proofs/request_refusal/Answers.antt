@@ -1,15 +1,12 @@
 -- `refusal::request_refusal` meets its contract: past the ranges the four tests are those of the definition, in its order.
 use mathlib.Core.Path.{◌≡◌, sym, subst}
-use mathlib.Core.Bool.{Bool, cond}
-use Prim.Native.Nat.{ℕ, ◌<◌, ◌≤◌}
+use mathlib.Core.Bool.{cond}
+use Prim.Native.Nat.{ℕ, ◌<◌}
 use lib.Dec.{leb}
 use borrow.Author.Tests.{lt-ltb, le-ltb, le-leb, lt-leb}
 use Rattle.rules.specs.Ranges.{ticks}
 use Rattle.rules.specs.Refusals.{no_tick_left, second_event, already_in, not_in}
-use Rattle.rules.specs.Kinds.{LR}
-use Rattle.event.specs.Carrier.{carriers, entering}
-use Rattle.group.specs.Marks.{carrier_marked, carrier_in}
-use Rattle.group.specs.declared.Group.{Group}
+use Rattle.event.specs.Carrier.{carriers}
 use Rattle.group.specs.Request.{request_refusal}
 use Rattle.refusal.proofs.request_refusal.Goals as goal
 use Rattle.refusal.proofs.request_refusal.Goals.{After-is_entering-entering}
