@@ -1,6 +1,7 @@
 // The ranges, the kinds and the refusal numbers of the gate, each with its one name. specs/ gives the definitions the same names.
 #![tactic(auto)]
 
+pub mod kind;
 pub mod refusal;
 
 // Models, sheets and groups are numbered from 0, below these.
