@@ -4,7 +4,7 @@
 use formula::{Moment, Verdict};
 use report::page::Page;
 use report::strips::Strips;
-use report::{Book, header, read_book};
+use report::{Book, read_book};
 use std::io::Read;
 use strip::Side;
 
@@ -16,30 +16,27 @@ fn granted<P: Print>(page: &mut Page<P>, model: u32, sheet: u32, moment: Moment)
     }
 }
 
-// The lines of one model, by sheet; a pair that isn't granted has none.
-fn of_model<P: Print>(page: &mut Page<P>, model: u32, strip: &[u32], sheets: &Strips, now: u32) {
-    for sheet in 0..rules::SHEETS {
-        if let Verdict::Granted(moment) = judge::judge(strip, sheets.of(sheet), now) {
-            granted(page, model, sheet, moment);
-        }
-    }
-}
-
-// The listing of a book that was read.
-fn listed<P: Print>(page: &mut Page<P>, book: &Book) {
-    let models = Strips::gathered(book.words(), Side::Model);
-    let sheets = Strips::gathered(book.words(), Side::Sheet);
-    header(page, book);
+// The listing of a book that was read, by model, then sheet; a pair that isn't granted has no line.
+fn listed<P: Print>(page: &mut Page<P>, book: Book) {
+    let models = Strips::gathered(book.words, Side::Model);
+    let sheets = Strips::gathered(book.words, Side::Sheet);
+    page.line(book);
     for model in 0..rules::MODELS {
-        of_model(page, model, models.of(model), &sheets, book.ticks);
+        for sheet in 0..rules::SHEETS {
+            let verdict = judge::judge(models.of(model), sheets.of(sheet), book.ticks);
+            if let Verdict::Granted(moment) = verdict {
+                granted(page, model, sheet, moment);
+            }
+        }
     }
     page.total("granted");
 }
 
 // The listing of the book that the input has, or its refusal.
 fn listing<P: Print, R: Read>(page: &mut Page<P>, reader: &mut R) {
-    match read_book(reader) {
-        Ok(book) => listed(page, &book),
+    let mut list = [0; rules::EVENTS];
+    match read_book(reader, &mut list) {
+        Ok(book) => listed(page, book),
         Err(refused) => page.line(refused),
     }
 }
@@ -47,5 +44,5 @@ fn listing<P: Print, R: Read>(page: &mut Page<P>, reader: &mut R) {
 fn main(rt: HostRuntime) {
     let mut page = Page::new(&rt);
     listing(&mut page, &mut rt.stdin());
-    page.finish();
+    page.flush();
 }

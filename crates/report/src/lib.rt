@@ -1,10 +1,9 @@
-// What the programs that report on a book share: the book from standard input, the strips of its carriers, and the lines that every report has.
+// What the programs that report on a book share: the book from standard input, the strips of its carriers, and the lines that their reports share.
 #![tactic(auto)]
 
 pub mod page;
 pub mod strips;
 
-use page::Page;
 use std::fmt;
 use std::io::Read;
 
@@ -12,13 +11,13 @@ use std::io::Read;
 const INPUT: usize = rules::LONGEST_BOOK + 1;
 
 // Why a book is refused: a refusal's number, and its place where it has one.
-#[derive(Clone, Copy, Debug)]
+#[derive(Clone, Copy)]
 pub struct Refused {
     number: u32,
     place: u32,
 }
 
-// "refused 21", or "refused 25 at 1" where there is a place.
+// The one line of a book that is refused: "refused 21", or "refused 25 at 1" where there is a place.
 impl fmt::Display for Refused {
     fn fmt<W: fmt::Write>(&self, f: &mut fmt::Formatter<W>) -> fmt::Result {
         let Refused { number, place } = *self;
@@ -29,18 +28,24 @@ impl fmt::Display for Refused {
     }
 }
 
-// A book that was read: its group and its ticks, and a list with its words at the front.
-#[derive(Drop)]
-pub struct Book {
+// A book that was read: its group, its ticks and its words.
+#[derive(Clone, Copy)]
+pub struct Book<'a> {
     pub number: u32,
     pub ticks: u32,
-    list: [u32; rules::EVENTS],
-    records: usize,
+    pub words: &'a [u32],
 }
 
-impl Book {
-    pub fn words(&self) -> &[u32] {
-        self.list.get(..self.records).unwrap_or(&[])
+// A report's first line.
+impl fmt::Display for Book<'_> {
+    fn fmt<W: fmt::Write>(&self, f: &mut fmt::Formatter<W>) -> fmt::Result {
+        let Book {
+            number,
+            ticks,
+            words,
+        } = *self;
+        let records = words.len();
+        write!(f, "group {number} ticks {ticks} records {records}")
     }
 }
 
@@ -56,29 +61,24 @@ pub fn read_full<'a, R: Read>(reader: &mut R, buffer: &'a mut [u8]) -> &'a [u8] 
     &buffer[..done]
 }
 
-// Reads a book to the end of the input.
-pub fn read_book<R: Read>(reader: &mut R) -> Result<Book, Refused> {
+// Reads a book to the end of the input, and its words to the front of the list.
+pub fn read_book<'a, R: Read>(
+    reader: &mut R,
+    list: &'a mut [u32; rules::EVENTS],
+) -> Result<Book<'a>, Refused> {
     let mut input = [0u8; INPUT];
     let bytes = read_full(reader, &mut input);
-    let mut list = [0u32; rules::EVENTS];
-    let read = book::read(bytes, &mut list);
+    let read = book::read(bytes, list);
     if read.code != 0 {
         return Err(Refused {
             number: read.code,
             place: read.place,
         });
     }
+    let records = bytes.len().saturating_sub(rules::BOOK_HEADER) / 4;
     Ok(Book {
         number: read.group.number,
         ticks: read.group.closed,
-        list,
-        records: bytes.len().saturating_sub(rules::BOOK_HEADER) / 4,
+        words: list.get(..records).unwrap_or(&[]),
     })
-}
-
-// The first line.
-pub fn header<P: Print>(page: &mut Page<P>, book: &Book) {
-    let Book { number, ticks, .. } = book;
-    let records = book.words().len();
-    page.line(format_args!("group {number} ticks {ticks} records {records}"));
 }

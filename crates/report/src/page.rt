@@ -3,10 +3,11 @@ use std::fmt;
 use std::fmt::{Display, Write};
 
 const OUT: usize = 65536;
+
 // No line is longer.
 const LINE: usize = 64;
 
-// A page is no `Drop`: it has to be finished, so that its last lines are written.
+#[derive(Drop)]
 pub struct Page<'a, P> {
     to: &'a P,
     buffer: [u8; OUT],
@@ -34,7 +35,7 @@ impl<'a, P: Print> Page<'a, P> {
     }
 
     // Writes out what is in the buffer. A write that fails is passed over.
-    fn flush(&mut self) {
+    pub fn flush(&mut self) {
         let _ = self.to.write_all(self.buffer.get(..self.at).unwrap_or(&[]));
         self.at = 0;
     }
@@ -57,16 +58,5 @@ impl<'a, P: Print> Page<'a, P> {
     pub fn total(&mut self, name: &str) {
         let lines = self.lines;
         self.line(format_args!("{name} {lines}"));
-    }
-
-    // Writes out what is left.
-    pub fn finish(self) {
-        let Page {
-            to,
-            buffer,
-            at,
-            lines: _,
-        } = self;
-        let _ = to.write_all(buffer.get(..at).unwrap_or(&[]));
     }
 }

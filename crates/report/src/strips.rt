@@ -11,7 +11,7 @@ fn carriers(side: Side) -> u32 {
     }
 }
 
-// The strips are gathered once: one behind the other, with their ends.
+// Strips that are gathered once: one behind the other, with their ends.
 #[derive(Drop)]
 pub struct Strips {
     list: [u32; rules::EVENTS],
@@ -20,14 +20,16 @@ pub struct Strips {
 
 impl Strips {
     pub fn gathered(words: &[u32], side: Side) -> Strips {
-        let mut list = [0; rules::EVENTS];
-        let mut ends = [0; ENDS];
+        let mut strips = Strips {
+            list: [0; rules::EVENTS],
+            ends: [0; ENDS],
+        };
         let mut at = 0;
-        for (number, end) in (0..carriers(side)).zip(&mut ends[1..]) {
-            at = gather::gather(words, side, number, &mut list, at);
+        for (number, end) in (0..carriers(side)).zip(&mut strips.ends[1..]) {
+            at = gather::gather(words, side, number, &mut strips.list, at);
             *end = at;
         }
-        Strips { list, ends }
+        strips
     }
 
     // A carrier's strip; a number that is no carrier's has an empty one.

@@ -6,7 +6,7 @@ mod ask;
 use ask::Asked;
 use report::page::Page;
 use report::strips::Strips;
-use report::{Book, header, read_book};
+use report::{Book, read_book};
 use std::io::Read;
 use strip::Side;
 
@@ -14,7 +14,7 @@ use strip::Side;
 const LIST: usize = rules::EVENTS;
 
 // The lines of one pair: the first `count` spans of the list.
-fn lines<P: Print>(page: &mut Page<P>, model: u32, sheet: u32, list: &[u32; LIST], count: u32) {
+fn lines<P: Print>(page: &mut Page<P>, model: u32, sheet: u32, list: &[u32], count: u32) {
     let (spans, _) = list.as_chunks::<2>();
     for [first, last] in spans.iter().take(count as usize) {
         page.counted(format_args!("{model} {sheet} {first} {last}"));
@@ -22,11 +22,11 @@ fn lines<P: Print>(page: &mut Page<P>, model: u32, sheet: u32, list: &[u32; LIST
 }
 
 // The spans of a book that was read, by model, then sheet.
-fn listed<P: Print>(page: &mut Page<P>, asked: Asked, book: &Book) {
-    let models = Strips::gathered(book.words(), Side::Model);
-    let sheets = Strips::gathered(book.words(), Side::Sheet);
+fn listed<P: Print>(page: &mut Page<P>, asked: Asked, book: Book) {
+    let models = Strips::gathered(book.words, Side::Model);
+    let sheets = Strips::gathered(book.words, Side::Sheet);
     let mut list = [0; LIST];
-    header(page, book);
+    page.line(book);
     for model in asked.models {
         for sheet in asked.sheets.start..asked.sheets.end {
             let told = span::spans(models.of(model), sheets.of(sheet), book.ticks, &mut list);
@@ -38,8 +38,9 @@ fn listed<P: Print>(page: &mut Page<P>, asked: Asked, book: &Book) {
 
 // The spans of the book that the input has, or its refusal.
 fn spans<P: Print, R: Read>(page: &mut Page<P>, reader: &mut R, asked: Asked) {
-    match read_book(reader) {
-        Ok(book) => listed(page, asked, &book),
+    let mut list = [0; rules::EVENTS];
+    match read_book(reader, &mut list) {
+        Ok(book) => listed(page, asked, book),
         Err(refused) => page.line(refused),
     }
 }
@@ -57,5 +58,5 @@ fn main(rt: HostRuntime) {
     };
     let mut page = Page::new(&rt);
     spans(&mut page, &mut rt.stdin(), asked);
-    page.finish();
+    page.flush();
 }
