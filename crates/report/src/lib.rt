@@ -50,13 +50,14 @@ impl fmt::Display for Book<'_> {
 }
 
 // Reads until the buffer is full, the input ends or a read fails, and answers the bytes that came.
+// kept: no heap is a rule of the project: of the library's methods only `read_to_end`, into a `Vec`, keeps what came before a failed read.
 pub fn read_full<'a, R: Read>(reader: &mut R, buffer: &'a mut [u8]) -> &'a [u8] {
     let mut done = 0;
     while done < buffer.len() {
-        match reader.read(&mut buffer[done..]) {
-            Ok(came @ 1..) => done += came,
-            _ => break,
-        }
+        let Ok(came @ 1..) = reader.read(&mut buffer[done..]) else {
+            break;
+        };
+        done += came;
     }
     &buffer[..done]
 }
