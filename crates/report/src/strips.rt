@@ -1,0 +1,43 @@
+// The strips of a book's carriers, all models or all sheets.
+use strip::Side;
+
+// One place more than there are sheets, of which there are the most: where each strip ends and the next begins.
+const ENDS: usize = rules::SHEETS as usize + 1;
+
+fn carriers(side: Side) -> u32 {
+    match side {
+        Side::Model => rules::MODELS,
+        Side::Sheet => rules::SHEETS,
+    }
+}
+
+// Strips that are gathered once: one behind the other, with their ends.
+#[derive(Drop)]
+pub struct Strips {
+    list: [u32; rules::EVENTS],
+    ends: [usize; ENDS],
+}
+
+impl Strips {
+    pub fn gathered(words: &[u32], side: Side) -> Strips {
+        let mut strips = Strips {
+            list: [0; rules::EVENTS],
+            ends: [0; ENDS],
+        };
+        let mut at = 0;
+        for (number, end) in (0..carriers(side)).zip(&mut strips.ends[1..]) {
+            at = gather::gather(words, side, number, &mut strips.list, at);
+            *end = at;
+        }
+        strips
+    }
+
+    // A carrier's strip; a number that is no carrier's has an empty one.
+    pub fn of(&self, number: u32) -> &[u32] {
+        let n = number as usize;
+        match self.ends.get(n..n + 2) {
+            Some([from, to]) => self.list.get(*from..*to).unwrap_or(&[]),
+            _ => &[],
+        }
+    }
+}
