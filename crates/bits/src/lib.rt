@@ -24,6 +24,7 @@ pub fn with_bit(word: u64, place: u32) -> u64
 }
 
 // The word with the bit, where it is to have it.
+// kept: apart from `sets::mark_set`, since a trait over a word and four words would be longer than the two functions of one line.
 pub fn mark_word(word: u64, when: bool, place: u32) -> u64
     requires { when ≡ true → place < width }
     ensures { result ≡ cond when (with_bit word place) word }
