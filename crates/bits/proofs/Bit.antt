@@ -2,11 +2,11 @@
 use mathlib.Core.Path.{◌≡◌, refl, sym, ap, ◌∙◌, subst}
 use mathlib.Core.Bool.{Bool, true, false, not, ◌&&◌, ◌||◌}
 use mathlib.Core.Logic.{◌⊎◌, inl, inr, ⊎_elim}
-use Prim.Native.Nat.{ℕ, zero, suc, ◌+◌, ◌-◌, ◌*◌, ◌/◌, ◌%◌, ◌^◌, ◌≤◌, ◌<◌, zero-le, suc-le-suc}
-use native.Mathlib.Nat.{not-suc-le-zero, le_of_suc-le-suc, mod-lt, zero-lt-suc, pow-suc, one-mul, lt_of_le_of_lt}
+use Prim.Native.Nat.{ℕ, zero, suc, ◌+◌, ◌-◌, ◌/◌, ◌%◌, ◌^◌, ◌≤◌, ◌<◌, zero-le, suc-le-suc}
+use native.Mathlib.Nat.{not-suc-le-zero, le_of_suc-le-suc, mod-lt, zero-lt-suc, pow-suc, lt_of_le_of_lt}
 use native.Mathlib.Omega.{arith}
 use lib.Dec.{eqb, T, eqb-suc-zero, eqb-zero-suc, eqb-suc-suc}
-use lib.Pow.{shr-shr, pow-lt, shl_exact}
+use lib.Pow.{shr-shr, pow-lt}
 use lib.Bits.{bit_and, bit_or, and_shr, or_shr, and_mod, or_mod, and_mask, or_lt, and_le_l}
 use Rattle.bits.specs.Bit.{width, bit, with_bit, after_word}
 
@@ -113,10 +113,6 @@ bit_with w m i = bit_or_lem w (2 ^ m) i ∙ ap (λ (x : Bool). bit w i || x) (bi
 
 pub with_lt : (n w m : ℕ) → w < 2 ^ n → m < n → with_bit w m < 2 ^ n
 with_lt n w m hw hm = or_lt n w (2 ^ m) hw (pow-lt hm)
-
--- `1 << m` as a machine of n bits has it
-pub shl_one : (n m : ℕ) → m < n → (1 * 2 ^ m) % 2 ^ n ≡ 2 ^ m
-shl_one n m h = shl_exact 1 m n (omega arith) (omega arith) ∙ one-mul (2 ^ m)
 
 -- `(w >> m) & 1 == 1`
 pub bit_test : (w m : ℕ) → eqb (bit_and (w / 2 ^ m) 1) 1 ≡ bit w m

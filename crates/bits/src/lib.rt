@@ -6,8 +6,9 @@ ghost use Rattle.base.specs.HowMany.{how_many};
 ghost use Rattle.bits.specs.Bit.{width, bit, next_bit, with_bit, after_word};
 
 // How many bits a word has.
-pub const WIDTH: u32 = 64;
+pub const WIDTH: u32 = u64::BITS;
 
+#[tactic(auto, using(crate::proofs::Bit::bit_test))]
 pub fn has_bit(word: u64, place: u32) -> bool
     requires { place < width }
     ensures { result ≡ bit word place }
@@ -23,6 +24,7 @@ pub fn with_bit(word: u64, place: u32) -> u64
 }
 
 // The word with the bit, where it is to have it.
+// kept: apart from `sets::mark_set`, since a trait over a word and four words would be longer than the two functions of one line.
 pub fn mark_word(word: u64, when: bool, place: u32) -> u64
     requires { when ≡ true → place < width }
     ensures { result ≡ cond when (with_bit word place) word }
@@ -43,7 +45,7 @@ pub fn next_bit(word: u64, from: u32) -> u32
     if from >= WIDTH {
         return WIDTH;
     }
-    let zeros = u64::trailing_zeros(word >> from);
+    let zeros = (word >> from).trailing_zeros();
     if zeros >= WIDTH - from {
         return WIDTH;
     }
@@ -58,8 +60,9 @@ pub fn choose(when: bool, a: u64, b: u64) -> u64
 }
 
 // How many bits of a word are set.
+#[tactic(auto, using(crate::proofs::Ones::ones_how_many))]
 pub fn count(word: u64) -> u32
     ensures { result ≡ how_many (bit word) width }
 {
-    u64::count_ones(word)
+    word.count_ones()
 }

@@ -1,14 +1,13 @@
 // The grants after a tick, changed where they stand. Most ticks name few carriers, so most words need no look.
 #![tactic(auto)]
 
-ghost use Rattle.std.specs.Prelude.{◌≡◌, ◌<◌, length, get_or};
+ghost use Rattle.std.specs.Prelude.{◌≡◌, ◌<◌, length};
 ghost use Rattle.rules.specs.Ranges.{sheets};
 ghost use Rattle.grants.specs.Words.{Sized, closed_words};
 ghost use Rattle.grants.specs.Gain.{lost_words, gained_word, changed_sheets, gained_words, gained_in};
 
-use rules::SHEETS;
-
 // Every sheet's word without the models that have an SL.
+#[tactic(auto, using(crate::proofs::Apart::lost_none))]
 fn lose(words: &mut [u64; 256], sl: u64)
     requires { Sized sheets words.old }
     ensures { words.new ≡ lost_words words.old sl }
@@ -16,13 +15,13 @@ fn lose(words: &mut [u64; 256], sl: u64)
     if sl == 0 {
         return;
     }
-    for s in 0..SHEETS {
-        let i = s as usize;
-        words[i] = words[i] & !sl;
+    for word in words.iter_mut() {
+        *word &= !sl;
     }
 }
 
 // A sheet's word after the rest of the tick: whether it has an SR, an add, is in by LA; the models in after the tick, and those with an LJ.
+#[tactic(auto, unfolding(crate::specs::Gain::gained_word))]
 fn gained(word: u64, sr: bool, add: bool, liberal: bool, members: u64, lj: u64) -> u64
     ensures { result ≡ gained_word word sr add liberal members lj }
 {
@@ -50,6 +49,7 @@ fn gain_word(
     ensures { words.new ≡ gained_in k words.old removed added inside members lj }
 {
     let change = changed(removed, added, inside, lj);
+    // kept: no count by hand, since the place goes on to the next sheet that changes; an iterator of our own would be longer than the loop.
     let mut place = bits::next_bit(change, 0);
     while place < bits::WIDTH {
         let s = k * 64 + place as usize;
@@ -59,14 +59,6 @@ fn gain_word(
         words[s] = gained(words[s], sr_here, add_here, in_here, members, lj);
         place = bits::next_bit(change, place + 1);
     }
-}
-
-// Word k of a set of sheets. Read here, so that `gain` keeps no set in memory, which would make its check dear.
-fn word_of(set: [u64; 4], k: usize) -> u64
-    requires { k < 4 }
-    ensures { result ≡ get_or set k 0 }
-{
-    set[k]
 }
 
 // Every sheet's word after the rest of the tick, one word of sheets after the other.
@@ -81,15 +73,15 @@ fn gain(
     requires { length words.old ≡ sheets }
     ensures { words.new ≡ gained_words words.old sr adds liberal members lj }
 {
-    for k in 0..4usize {
-        let removed = word_of(sr, k);
-        let added = word_of(adds, k);
-        let inside = word_of(liberal, k);
-        gain_word(&mut *words, k, removed, added, inside, members, lj);
+    // kept: k is the number of a word of sheets, which gain_word takes, and counts through no list of its own.
+    for k in 0..4 {
+        gain_word(words, k, sr[k], adds[k], liberal[k], members, lj);
     }
 }
 
 // Every sheet's word after the tick, where it stands.
+// kept: the tick's sets one by one and no struct of them, since `closed_words` takes them so, and the two callers have them in different places.
+#[tactic(auto, using(crate::proofs::Apart::closed_apart))]
 pub fn close_words(
     words: &mut [u64; 256],
     sr: [u64; 4],
@@ -102,6 +94,6 @@ pub fn close_words(
     requires { Sized sheets words.old }
     ensures { words.new ≡ closed_words words.old sr adds liberal members sl lj }
 {
-    lose(&mut *words, sl);
+    lose(words, sl);
     gain(words, sr, adds, liberal, members, lj);
 }

@@ -1,25 +1,30 @@
 // Sets of numbers below 256, kept as four words.
+// kept: functions on arrays and no struct with methods, since a group's fields are such arrays in C (include/ferrulebee.h) and lists in its definitions.
 #![tactic(auto)]
 
 ghost use Rattle.std.specs.Prelude.{◌≡◌, true, cond, ◌<◌};
 ghost use Rattle.sets.specs.Set.{has, with, either, after};
 
+use bits::WIDTH;
+use std::array;
+
+#[tactic(auto, unfolding(crate::specs::Set::has))]
 pub fn has(words: [u64; 4], number: u32) -> bool
     requires { number < 256 }
     ensures { result ≡ has words number }
 {
-    let k = (number / bits::WIDTH) as usize;
-    bits::has_bit(words[k], number % bits::WIDTH)
+    let k = (number / WIDTH) as usize;
+    bits::has_bit(words[k], number % WIDTH)
 }
 
-pub fn with(words: [u64; 4], number: u32) -> [u64; 4]
+#[tactic(auto, unfolding(crate::specs::Set::with))]
+pub fn with(mut words: [u64; 4], number: u32) -> [u64; 4]
     requires { number < 256 }
     ensures { result ≡ with words number }
 {
-    let k = (number / bits::WIDTH) as usize;
-    let mut out = words;
-    out[k] = bits::with_bit(out[k], number % bits::WIDTH);
-    out
+    let k = (number / WIDTH) as usize;
+    words[k] = bits::with_bit(words[k], number % WIDTH);
+    words
 }
 
 // The set with the number, where it is to have it.
@@ -30,22 +35,16 @@ pub fn mark_set(words: [u64; 4], when: bool, number: u32) -> [u64; 4]
     if when { with(words, number) } else { words }
 }
 
+#[tactic(auto, unfolding(crate::specs::Set::either, base::specs::Table::table))]
 pub fn either(a: [u64; 4], b: [u64; 4]) -> [u64; 4]
     ensures { result ≡ either 4 a b }
 {
-    let mut out = a;
-    for k in 0..4usize {
-        out[k] = out[k] | b[k];
-    }
-    out
+    array::from_fn(|k| a[k] | b[k])
 }
 
+#[tactic(auto, unfolding(crate::specs::Set::after, base::specs::Table::table))]
 pub fn after(was: [u64; 4], gone: [u64; 4], come: [u64; 4]) -> [u64; 4]
     ensures { result ≡ after 4 was gone come }
 {
-    let mut out = was;
-    for k in 0..4usize {
-        out[k] = bits::after_word(out[k], gone[k], come[k]);
-    }
-    out
+    array::from_fn(|k| bits::after_word(was[k], gone[k], come[k]))
 }

@@ -1,3 +1,2 @@
 -- What the promises of this crate's calls fix.
 pub mod Once
-mod Powers

@@ -9,6 +9,7 @@ ghost use Rattle.text.specs.Text.{added, added_end, AddsDecimal};
 const DIGITS: usize = 20;
 
 // Adds the text at place `at` and answers the place behind it, or `at` where it doesn't fit.
+#[tactic(auto, using(wire::proofs::Put::put_lent))]
 pub fn add(out: &mut [u8], at: usize, text: &[u8]) -> usize
     ensures { (result ≡ added_end out.old at text.now) × (out.new ≡ added out.old at text.now) }
 {
@@ -19,7 +20,7 @@ pub fn add(out: &mut [u8], at: usize, text: &[u8]) -> usize
         return at;
     }
     let end = at + text.len();
-    wire::copy(text, &mut out[at..end]);
+    out[at..end].copy_from_slice(text);
     end
 }
 
@@ -45,15 +46,10 @@ fn decimal(n: u64, out: &mut [u8; DIGITS]) -> usize
 
 // How many digits a number takes.
 fn digit_count(n: u64) -> usize
-    ensures { IsDigitCount n result }
+    ensures room { result ≤ 20 }
+    ensures count { IsDigitCount n result }
 {
-    let mut k = 1;
-    let mut rest = n / 10;
-    while rest > 0 {
-        rest /= 10;
-        k += 1;
-    }
-    k
+    n.checked_ilog10().map_or(1, |k| k as usize + 1)
 }
 
 // Puts the last k digits of a number at the front of `out`.
@@ -61,10 +57,8 @@ fn write_digits(n: u64, k: usize, out: &mut [u8])
     requires { k ≤ length out.old }
     ensures { take k out.new ≡ last_digits k n }
 {
-    let mut i = k;
     let mut rest = n;
-    while i > 0 {
-        i -= 1;
+    for i in (0..k).rev() {
         out[i] = digit(rest % 10);
         rest /= 10;
     }

@@ -5,9 +5,11 @@ use Prim.Native.Nat.{ℕ, zero, suc, ◌+◌, ◌-◌, ◌*◌, ◌/◌, ◌≤�
 use native.Mathlib.Omega.{arith}
 use lib.ListN.{length, get_or, take, drop, length-append}
 use lib.Seq.{drop_at, take_at, take-add}
+use Rattle.std.specs.Int.{w32, from_le_bytes}
+use Rattle.std.specs.Simd.{first_chunks}
 use Rattle.wire.specs.Word.{le32, bytes32, AllBytes}
 use Rattle.wire.specs.Words.{words, words_in, bytes}
-use Rattle.wire.proofs.Word.{length_bytes32, le32_drop, word_of_bytes, bytes_of_word}
+use Rattle.wire.proofs.Word.{length_bytes32, le32_drop, le32_take, word_of_bytes, bytes_of_word}
 
 pub length_words : (b : List ℕ) (n : ℕ) → length (words b n) ≡ n
 unfolding words
@@ -41,6 +43,14 @@ words_at b zero i h = absurd (omega arith)
 words_at b (suc n) zero h = refl
 words_at b (suc n) (suc i) h =
     words_at (drop 4 b) n i (omega arith) ∙ le32_drop b 4 (i * 4) ∙ ap (le32 b) (let e : 4 + i * 4 ≡ suc i * 4 = omega arith in e)
+
+-- the word of four bytes cut out
+pub chunk_word : (b : List ℕ) (n i : ℕ) (d : List ℕ) → i < n → from_le_bytes w32 (get_or (first_chunks 4 n b) i d) ≡ le32 b (i * 4)
+unfolding le32
+chunk_word b zero i d h = absurd (omega arith)
+chunk_word b (suc n) zero d h = le32_take b 4 0 (omega arith)
+chunk_word b (suc n) (suc i) d h =
+    chunk_word (drop 4 b) n i d (omega arith) ∙ le32_drop b 4 (i * 4) ∙ ap (le32 b) (let e : 4 + i * 4 ≡ suc i * 4 = omega arith in e)
 
 -- one word more
 pub words_more : (b : List ℕ) (n : ℕ) → words b (suc n) ≡ words b n ++ (le32 b (n * 4) ∷ [])

@@ -17,7 +17,7 @@ pub loop-k-preserved : goal.loop-k-preserved
 loop-k-preserved c = (
   search rules,
   upto_more c.args.words.now c.args.sr c.args.adds c.args.liberal c.args.members c.args.lj c.loop-k.k c.loop-k.words c.loop-k.invariant.1 _ _ _ _
-      c.word_of-removed.ensures c.word_of-added.ensures c.word_of-inside.ensures c.gain_word.ensures,
+      refl refl refl c.gain_word.ensures,
 )
 
 pub returns : goal.returns
