@@ -13,9 +13,8 @@ use Rattle.rules.specs.Ranges.{models, sheets, groups}
 use Rattle.bits.specs.Bit.{bit}
 use Rattle.bits.proofs.Bit.{bit_zero, bit_low, bit_half}
 use Rattle.bits.specs.Granted.{granted}
-use Rattle.group.specs.Read.{grant_of, read_answer}
+use Rattle.group.specs.Read.{Granted, Denied, grant_of, read_answer}
 use Rattle.group.specs.declared.Group.{Group}
-use Rattle.group.specs.declared.ReadAnswer.TheVariants.{Granted, Denied}
 use Rattle.station.specs.Mask.{grants, mask_of}
 use Rattle.station.proofs.Scan.{mask_fits}
 
