@@ -7,7 +7,8 @@ ghost use Rattle.group.specs.Close.{closed_group, close_answer};
 ghost use Rattle.close.specs.Settled.{settled_by};
 
 use group::{Answer, Group};
-use rules::{NO_TICK_LEFT, TICKS};
+use rules::TICKS;
+use rules::refusal::Refusal;
 
 // All of a close but the grants: who is in after the tick, and the sheets with an add in it.
 #[derive(Clone, Copy)]
@@ -18,64 +19,68 @@ pub struct Settled {
     pub liberal: [u64; 4],
 }
 
-pub fn settle(group: Group) -> Settled
-    ensures { result ≡ settled_by group }
+#[tactic(auto, unfolding(group::specs::Close::closed_members, group::specs::Close::closed_added, group::specs::Close::closed_liberal))]
+pub fn settle(group: &Group) -> Settled
+    ensures { result ≡ settled_by group.now }
 {
-    let sa = group.sa;
-    let la = group.la;
-    let sr = group.sr;
-    let lr = group.lr;
-    let was_added = group.added;
-    let was_liberal = group.liberal;
-    let removes = sets::either(sr, lr);
-    let adds = sets::either(sa, la);
+    let removes = sets::either(group.sr, group.lr);
+    let adds = sets::either(group.sa, group.la);
     Settled {
         members: bits::after_word(group.members, group.sl | group.ll, group.sj | group.lj),
         adds,
-        added: sets::after(was_added, removes, adds),
-        liberal: sets::after(was_liberal, removes, la),
+        added: sets::after(group.added, removes, adds),
+        liberal: sets::after(group.liberal, removes, group.la),
     }
+}
+
+// The open tick closed, where the group stands.
+#[tactic(auto, unfolding(group::specs::Close::closed_group))]
+pub fn close_tick(g: &mut Group)
+    requires { g.old.closed < ticks }
+    ensures { g.new ≡ closed_group g.old }
+{
+    let Settled {
+        members,
+        adds,
+        added,
+        liberal,
+    } = settle(g);
+    grants::close_words(&mut g.grants, g.sr, adds, liberal, members, g.sl, g.lj);
+    g.closed += 1;
+    g.members = members;
+    g.sj = 0;
+    g.lj = 0;
+    g.sl = 0;
+    g.ll = 0;
+    g.added = added;
+    g.liberal = liberal;
+    g.sa = [0; 4];
+    g.la = [0; 4];
+    g.sr = [0; 4];
+    g.lr = [0; 4];
 }
 
 pub fn after_close(mut group: Group) -> Group
     requires { group.closed < ticks }
     ensures { result ≡ closed_group group }
 {
-    let after = settle(group);
-    let members = after.members;
-    let adds = after.adds;
-    let added = after.added;
-    let liberal = after.liberal;
-    let sr = group.sr;
-    let sl = group.sl;
-    let lj = group.lj;
-    grants::close_words(&mut group.grants, sr, adds, liberal, members, sl, lj);
-    group.closed = group.closed + 1;
-    group.members = members;
-    group.sj = 0;
-    group.lj = 0;
-    group.sl = 0;
-    group.ll = 0;
-    group.added = added;
-    group.liberal = liberal;
-    group.sa = [0; 4];
-    group.la = [0; 4];
-    group.sr = [0; 4];
-    group.lr = [0; 4];
+    close_tick(&mut group);
     group
 }
 
+// kept: a group by value, and a number beside it, are the C interface
+#[tactic(auto, unfolding(group::specs::Close::close_answer))]
 pub fn close(group: Group) -> Answer
     ensures { result ≡ close_answer group }
 {
-    if group.closed < TICKS {
+    if group.closed >= TICKS {
         return Answer {
-            code: 0,
-            group: after_close(group),
+            code: Refusal::NoTickLeft.number(),
+            group,
         };
     }
     Answer {
-        code: NO_TICK_LEFT,
-        group: group,
+        code: 0,
+        group: after_close(group),
     }
 }

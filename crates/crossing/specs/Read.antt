@@ -1,7 +1,6 @@
 -- A read's answer from C.
 use Rattle.std.specs.Prelude.{cond}
-use Rattle.group.specs.Read.{read_number, grant_of}
-use Rattle.group.specs.declared.ReadAnswer.{ReadAnswer}
+use Rattle.group.specs.Read.{ReadAnswer, read_number, grant_of}
 use Rattle.crossing.specs.declared.numbers.Read.{Read}
 
 -- the refusal's number, 0 where the read is answered; 1 for granted, 0 for denied and for refused

@@ -16,9 +16,8 @@ use Rattle.spanning.specs.Spans.{Span, LiesIn}
 use Rattle.spanning.specs.Told.{OverAt, VerdictSays, StrictAt}
 use Rattle.spanning.proofs.Exactly.{spans_are}
 use Rattle.spanning.proofs.Last.{last_lies, lies_before}
-use Rattle.group.specs.Read.{read_answer}
+use Rattle.group.specs.Read.{Granted, Denied, read_answer}
 use Rattle.group.specs.declared.Group.{Group}
-use Rattle.group.specs.declared.ReadAnswer.TheVariants.{Granted, Denied}
 use Rattle.demands.specs.Calls.{Call, Run, start_fresh, reach}
 use Rattle.demands.specs.Gated.{strip, model, sheet}
 use Rattle.demands.specs.Ours.{ours}

@@ -13,9 +13,8 @@ use Rattle.rules.specs.Ranges.{models, sheets, groups}
 use Rattle.bits.specs.Bit.{bit}
 use Rattle.bits.specs.Granted.{granted}
 use Rattle.bits.proofs.Bit.{bit_zero}
-use Rattle.group.specs.Read.{read_refusal, read_answer}
+use Rattle.group.specs.Read.{Granted, Denied, read_refusal, read_answer}
 use Rattle.group.specs.declared.Group.{Group}
-use Rattle.group.specs.declared.ReadAnswer.TheVariants.{Granted, Denied}
 use Rattle.group.proofs.Request.{request_code}
 use Rattle.station.specs.Mask.{mask_of, list_refusal, answer_with, mask_answer}
 use Rattle.station.proofs.Positions.{mask_bit, mask_none, grants_granted}

@@ -34,13 +34,12 @@ use Rattle.event.specs.Carrier.{carriers, entering}
 use Rattle.group.specs.Close.{close_answer}
 use Rattle.group.specs.Count.{count_answer}
 use Rattle.group.specs.Fresh.{fresh_answer}
-use Rattle.group.specs.Read.{Reads, read_answer}
+use Rattle.group.specs.Read.{ReadAnswer, Reads, read_answer}
 use Rattle.group.specs.Request.{request_refusal, request_answer}
 use Rattle.close.specs.Settled.{settled_by}
 use Rattle.group.specs.declared.Answer.{Answer}
 use Rattle.group.specs.declared.CountAnswer.{CountAnswer}
 use Rattle.group.specs.declared.Group.{Group}
-use Rattle.group.specs.declared.ReadAnswer.{ReadAnswer}
 use Rattle.close.specs.declared.Settled.{Settled}
 use Rattle.judge.specs.Checked as check
 use Rattle.evidence.specs.Evidence.{evidence_of, start_of}

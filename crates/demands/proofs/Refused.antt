@@ -14,13 +14,11 @@ use Rattle.group.specs.Count.{models_granted, count_answer}
 use Rattle.group.specs.Fresh.{fresh_group, fresh_answer}
 use Rattle.group.specs.Marks.{carrier_marked, carrier_in}
 use Rattle.bits.specs.Granted.{granted}
-use Rattle.group.specs.Read.{read_refusal, read_number, grant_of, read_answer}
+use Rattle.group.specs.Read.{ReadAnswer, Granted, Denied, Refused, read_refusal, read_number, grant_of, read_answer}
 use Rattle.group.specs.Request.{request_refusal, request_answer}
 use Rattle.group.specs.declared.Answer.{Answer}
 use Rattle.group.specs.declared.CountAnswer.{CountAnswer}
 use Rattle.group.specs.declared.Group.{Group}
-use Rattle.group.specs.declared.ReadAnswer.{ReadAnswer}
-use Rattle.group.specs.declared.ReadAnswer.TheVariants.{Granted, Denied, Refused}
 use Rattle.group.proofs.Request.{request_code, request_refused}
 use Rattle.station.specs.Mask.{mask_of, list_refusal, answer_with, mask_answer}
 use Rattle.station.specs.declared.MaskAnswer.{MaskAnswer}

@@ -22,9 +22,8 @@ use Rattle.spanning.specs.Spans.{Span, LiesIn, Spans}
 use Rattle.span.proofs.Answers.{answer_given, list_given}
 use Rattle.spanning.proofs.Exactly.{spans_are, lies_after}
 use Rattle.span.proofs.Few.{spans_few}
-use Rattle.group.specs.Read.{read_answer}
+use Rattle.group.specs.Read.{Granted, read_answer}
 use Rattle.group.specs.declared.Group.{Group}
-use Rattle.group.specs.declared.ReadAnswer.TheVariants.{Granted}
 use Rattle.history.specs.Run.{Reached, run}
 use Rattle.history.specs.Run as history
 use Rattle.strip.specs.Strips.{strip_of}

@@ -3,8 +3,8 @@
 use Rattle.std.specs.Prelude.{cond, List, [], ◌∷◌, ◌++◌, ℕ, ◌+◌, eqb, ltb}
 use Rattle.rules.specs.Ranges.{groups, ticks}
 use Rattle.event.specs.Word.{word_of}
+use Rattle.group.specs.Read.{ReadAnswer}
 use Rattle.group.specs.declared.CountAnswer.{CountAnswer}
-use Rattle.group.specs.declared.ReadAnswer.{ReadAnswer}
 use Rattle.delivery.specs.declared.Delivery.{Delivery}
 use Rattle.book.specs.Read.{records_in}
 use Rattle.format.specs.Header.{ticks_in, number_in}

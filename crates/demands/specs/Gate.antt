@@ -3,8 +3,8 @@
 use Rattle.std.specs.Prelude.{List, ℕ}
 use Rattle.book.specs.declared.BookWritten.{BookWritten}
 use Rattle.formula.specs.declared.Verdict.{Verdict}
+use Rattle.group.specs.Read.{ReadAnswer}
 use Rattle.group.specs.declared.CountAnswer.{CountAnswer}
-use Rattle.group.specs.declared.ReadAnswer.{ReadAnswer}
 use Rattle.span.specs.declared.SpansAnswer.{SpansAnswer}
 use Rattle.station.specs.declared.MaskAnswer.{MaskAnswer}
 use Rattle.delivery.specs.declared.Delivery.{Delivery}

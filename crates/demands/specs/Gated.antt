@@ -11,13 +11,13 @@ use Rattle.strip.specs.declared.Side.{Side}
 use Rattle.strip.specs.declared.Side.TheVariants.{Model, Sheet}
 use Rattle.strip.specs.Good.{range, Good}
 use Rattle.strip.specs.History.{history_of}
-use Rattle.group.specs.declared.ReadAnswer.TheVariants.{Granted, Denied}
 use Rattle.delivery.specs.declared.Delivery.TheVariants.{Delivered}
 use Rattle.strip.specs.Strips.{strip_of}
 use Rattle.history.specs.WellFormed.{WellFormed}
 use Rattle.demands.specs.Calls.{Run}
 use Rattle.demands.specs.Delivered.{Holds}
 use Rattle.demands.specs.Gate.{Gate}
+use Rattle.group.specs.Read.{Granted, Denied}
 
 module _ {State : Type 0} (r : Run State) where
   -- the strip of a carrier's accepted events of closed ticks

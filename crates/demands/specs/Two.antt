@@ -13,13 +13,13 @@ use Rattle.formula.specs.declared.Moment.{Moment}
 use Rattle.formula.specs.declared.Verdict.TheVariants.{Granted as VerdictGranted}
 use Rattle.strip.specs.History.{history_of}
 use Rattle.judge.specs.Judge.{StripsAccepted}
-use Rattle.group.specs.declared.ReadAnswer.TheVariants.{Granted}
 use Rattle.wire.specs.Word.{AllBytes}
 use Rattle.book.specs.Read.{records_in}
 use Rattle.format.specs.Header.{ticks_in, count_in, number_in}
 use Rattle.demands.specs.Calls.{Call, start_fresh, start_book, reach}
 use Rattle.demands.specs.Gate.{Gate}
 use Rattle.demands.specs.Gated.{Gated}
+use Rattle.group.specs.Read.{Granted}
 
 -- what a reader makes of a book of T, number and words: the same ones
 pub record ReadBack {State : Type 0} (G : Gate State) (T number : ℕ) (ws b list : List ℕ) : Type 0 where

@@ -1,11 +1,23 @@
 -- What a model that asks to read a sheet is answered.
-use Rattle.std.specs.Prelude.{◌≡◌, Bool, true, false, cond, ℕ, leb}
+use Rattle.std.specs.Prelude.{◌≡◌, Bool, true, false, cond, ℕ, leb, Result, Ok, Err}
 use Rattle.rules.specs.Ranges.{models, sheets}
 use Rattle.rules.specs.Refusals.{bad_number}
 use Rattle.bits.specs.Granted.{granted}
+use Rattle.rules.specs.Refusal.{refusal_number}
+use Rattle.rules.specs.declared.refusal.Refusal.{Refusal}
 use Rattle.group.specs.declared.Group.{Group}
-use Rattle.group.specs.declared.ReadAnswer.{ReadAnswer}
-use Rattle.group.specs.declared.ReadAnswer.TheVariants.{Granted, Denied, Refused}
+
+-- a read's answer; a refusal has its number
+pub data ReadAnswer : Type 0 where
+  Granted : ReadAnswer
+  Denied : ReadAnswer
+  Refused : ℕ → ReadAnswer
+
+-- what the code answers
+abbrev pub read_told : Result Bool Refusal → ReadAnswer
+read_told (Ok true) = Granted
+read_told (Ok false) = Denied
+read_told (Err refusal) = Refused (refusal_number refusal)
 
 -- "2: model or sheet number out of range (model looked at first)", 0 where both are in range
 unfoldable pub read_refusal : ℕ → ℕ → ℕ

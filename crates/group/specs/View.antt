@@ -11,9 +11,8 @@ use Rattle.event.specs.Carrier.{of_model, carriers, entering}
 use Rattle.group.specs.Marks.{mark, model_in}
 use Rattle.bits.specs.Granted.{granted}
 use Rattle.group.specs.Request.{marked_set}
+use Rattle.group.specs.Read.{ReadAnswer, Granted, Denied, Refused}
 use Rattle.group.specs.declared.Group.{Group}
-use Rattle.group.specs.declared.ReadAnswer.{ReadAnswer}
-use Rattle.group.specs.declared.ReadAnswer.TheVariants.{Granted, Denied, Refused}
 
 pub record View : Type 0 where
   pub number : ℕ

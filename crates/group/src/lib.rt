@@ -3,11 +3,12 @@
 #![tactic(auto)]
 
 ghost use Rattle.std.specs.Prelude.{◌≡◌};
-ghost use Rattle.group.specs.Count.{count_answer};
+ghost use Rattle.group.specs.Count.{count_told, count_answer};
 ghost use Rattle.group.specs.Fresh.{fresh_group, fresh_answer};
-ghost use Rattle.group.specs.Read.{Reads};
+ghost use Rattle.group.specs.Read.{read_told, Reads};
 
-use rules::{BAD_GROUP, BAD_NUMBER, GROUPS, MODELS, SHEETS};
+use rules::refusal::Refusal;
+use rules::{GROUPS, MODELS, SHEETS};
 
 // members, added: the models and the sheets that are in as of the last close; liberal: the sheets that are in by LA.
 // sj to lr: for each kind, the carriers with an accepted event of it in the open tick.
@@ -39,15 +40,7 @@ pub struct Answer {
     pub group: Group,
 }
 
-// A read's answer; a refusal has its number.
-#[derive(Clone, Copy)]
-pub enum ReadAnswer {
-    Granted,
-    Denied,
-    Refused(u32),
-}
-
-// A refusal's number, or 0 with the count.
+// A count in numbers: a refusal's number, or 0 with the count.
 #[repr(C)]
 #[derive(Clone, Copy)]
 pub struct CountAnswer {
@@ -55,11 +48,26 @@ pub struct CountAnswer {
     pub count: u32,
 }
 
+impl From<Result<u32, Refusal>> for CountAnswer {
+    ghost from_gives = { λ answer r. r ≡ count_told answer };
+
+    fn from(answer: Result<u32, Refusal>) -> Self {
+        match answer {
+            Ok(count) => CountAnswer { code: 0, count },
+            Err(refusal) => CountAnswer {
+                code: refusal.number(),
+                count: 0,
+            },
+        }
+    }
+}
+
+#[tactic(auto, unfolding(crate::specs::Fresh::fresh_group))]
 fn fresh_group(number: u32) -> Group
     ensures { result ≡ fresh_group number }
 {
     Group {
-        number: number,
+        number,
         closed: 0,
         members: 0,
         sj: 0,
@@ -77,12 +85,14 @@ fn fresh_group(number: u32) -> Group
 }
 
 impl Group {
+    // kept: a number beside a group by value is the C interface
+    #[tactic(auto, unfolding(crate::specs::Fresh::fresh_answer))]
     pub fn fresh(number: u32) -> Answer
         ensures { result ≡ fresh_answer number }
     {
         if number >= GROUPS {
             return Answer {
-                code: BAD_GROUP,
+                code: Refusal::BadGroup.number(),
                 group: fresh_group(0),
             };
         }
@@ -92,37 +102,25 @@ impl Group {
         }
     }
 
-    pub fn read(self, model: u32, sheet: u32) -> ReadAnswer
-        ensures { Reads self model sheet result }
+    // Whether a model may read a sheet.
+    #[tactic(auto, unfolding(crate::specs::Read::read_answer, crate::specs::Read::read_refusal, bits::specs::Bit::bit_in))]
+    pub fn read(&self, model: u32, sheet: u32) -> Result<bool, Refusal>
+        ensures { Reads self.now model sheet (read_told result) }
     {
-        if model >= MODELS {
-            return ReadAnswer::Refused(BAD_NUMBER);
+        if model >= MODELS || sheet >= SHEETS {
+            return Err(Refusal::BadNumber);
         }
-        if sheet >= SHEETS {
-            return ReadAnswer::Refused(BAD_NUMBER);
-        }
-        let s = sheet as usize;
-        if bits::has_bit(self.grants[s], model) {
-            ReadAnswer::Granted
-        } else {
-            ReadAnswer::Denied
-        }
+        Ok(bits::has_bit(self.grants[sheet as usize], model))
     }
 
     // How many models may read a sheet.
-    pub fn models(self, sheet: u32) -> CountAnswer
-        ensures { result ≡ count_answer self sheet }
+    #[tactic(auto, unfolding(crate::specs::Count::count_answer, crate::specs::Count::models_granted, bits::specs::Bit::bit_in))]
+    pub fn models(&self, sheet: u32) -> Result<u32, Refusal>
+        ensures { count_told result ≡ count_answer self.now sheet }
     {
         if sheet >= SHEETS {
-            return CountAnswer {
-                code: BAD_NUMBER,
-                count: 0,
-            };
+            return Err(Refusal::BadNumber);
         }
-        let s = sheet as usize;
-        CountAnswer {
-            code: 0,
-            count: bits::count(self.grants[s]),
-        }
+        Ok(bits::count(self.grants[sheet as usize]))
     }
 }

@@ -10,10 +10,9 @@ use Rattle.rules.specs.Ranges.{models, sheets}
 use Rattle.strip.specs.Good.{range}
 use Rattle.event.specs.Carrier.{of_model, carriers}
 use Rattle.bits.specs.Granted.{granted}
-use Rattle.group.specs.Read.{read_answer}
+use Rattle.group.specs.Read.{Granted, Denied, read_answer}
 use Rattle.group.specs.Request.{request_refusal}
 use Rattle.group.specs.declared.Group.{Group}
-use Rattle.group.specs.declared.ReadAnswer.TheVariants.{Granted, Denied}
 use Rattle.group.proofs.Accepted.{accepted, not_refused}
 use Rattle.history.specs.Run.{Reached}
 use Rattle.history.specs.WellFormed.{side_of, WellFormed}

@@ -23,10 +23,9 @@ use Rattle.judge.specs.Judge.{judged_by}
 use Rattle.judge.proofs.Promise.{judge_grants}
 use Rattle.group.specs.Count.{models_granted, count_answer}
 use Rattle.bits.specs.Granted.{granted}
-use Rattle.group.specs.Read.{read_answer}
+use Rattle.group.specs.Read.{Granted, read_answer}
 use Rattle.group.specs.Request.{request_refusal}
 use Rattle.group.specs.declared.Group.{Group}
-use Rattle.group.specs.declared.ReadAnswer.TheVariants.{Granted}
 use Rattle.history.specs.Run.{Move, open_tick, reached}
 use Rattle.strip.specs.Strips.{strip_of}
 use Rattle.history.specs.WellFormed.{WellFormed}

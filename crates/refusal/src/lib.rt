@@ -2,17 +2,21 @@
 #![tactic(auto)]
 
 ghost use Rattle.std.specs.Prelude.{◌≡◌, ◌<◌};
+ghost use Rattle.rules.specs.Kind.{kind_number};
 ghost use Rattle.rules.specs.Ranges.{models, sheets};
+ghost use Rattle.rules.specs.Refusal.{told, alone};
 ghost use Rattle.event.specs.Carrier.{carriers};
 ghost use Rattle.group.specs.Marks.{model_marked, sheet_marked, carrier_marked, carrier_in};
 ghost use Rattle.group.specs.Request.{request_refusal};
 
 use group::Group;
-use rules::{ALREADY_IN, BAD_KIND, BAD_NUMBER, LR, NO_TICK_LEFT, NOT_IN, SA, SECOND_EVENT, TICKS};
+use rules::TICKS;
+use rules::kind::Kind;
+use rules::refusal::Refusal;
 
-fn model_marked(group: Group, model: u32) -> bool
+fn model_marked(group: &Group, model: u32) -> bool
     requires { model < models }
-    ensures { result ≡ model_marked group model }
+    ensures { result ≡ model_marked group.now model }
 {
     bits::has_bit(group.sj, model)
         | bits::has_bit(group.lj, model)
@@ -20,64 +24,58 @@ fn model_marked(group: Group, model: u32) -> bool
         | bits::has_bit(group.ll, model)
 }
 
-fn sheet_marked(group: Group, sheet: u32) -> bool
+fn sheet_marked(group: &Group, sheet: u32) -> bool
     requires { sheet < sheets }
-    ensures { result ≡ sheet_marked group sheet }
+    ensures { result ≡ sheet_marked group.now sheet }
 {
-    let sa = group.sa;
-    let la = group.la;
-    let sr = group.sr;
-    let lr = group.lr;
-    sets::has(sa, sheet) | sets::has(la, sheet) | sets::has(sr, sheet) | sets::has(lr, sheet)
+    sets::has(group.sa, sheet)
+        | sets::has(group.la, sheet)
+        | sets::has(group.sr, sheet)
+        | sets::has(group.lr, sheet)
 }
 
 // The carrier of a kind has an event in the open tick.
-fn carrier_marked(group: Group, kind: u32, number: u32) -> bool
-    requires { number < carriers kind }
-    ensures { result ≡ carrier_marked group kind number }
+fn carrier_marked(group: &Group, kind: Kind, number: u32) -> bool
+    requires { number < carriers (kind_number kind) }
+    ensures { result ≡ carrier_marked group.now (kind_number kind) number }
 {
-    if kind < SA {
-        model_marked(group, number)
-    } else {
-        sheet_marked(group, number)
+    match kind {
+        Kind::SJ | Kind::LJ | Kind::SL | Kind::LL => model_marked(group, number),
+        Kind::SA | Kind::LA | Kind::SR | Kind::LR => sheet_marked(group, number),
     }
 }
 
 // The carrier of a kind is in as of the last close.
-fn carrier_in(group: Group, kind: u32, number: u32) -> bool
-    requires { number < carriers kind }
-    ensures { result ≡ carrier_in group kind number }
+fn carrier_in(group: &Group, kind: Kind, number: u32) -> bool
+    requires { number < carriers (kind_number kind) }
+    ensures { result ≡ carrier_in group.now (kind_number kind) number }
 {
-    if kind < SA {
-        return bits::has_bit(group.members, number);
+    match kind {
+        Kind::SJ | Kind::LJ | Kind::SL | Kind::LL => bits::has_bit(group.members, number),
+        Kind::SA | Kind::LA | Kind::SR | Kind::LR => sets::has(group.added, number),
     }
-    let added = group.added;
-    sets::has(added, number)
 }
 
-// The order of the refusals; 0 is none.
-pub fn request_refusal(group: Group, kind: u32, number: u32) -> u32
-    ensures { result ≡ request_refusal group kind number }
+// The order of the refusals.
+pub fn request_refusal(group: &Group, kind: u32, number: u32) -> Result<(), Refusal>
+    ensures { told result ≡ alone (request_refusal group.now kind number) }
 {
-    if kind > LR {
-        return BAD_KIND;
-    }
+    let Ok(known) = Kind::try_from(kind) else {
+        return Err(Refusal::BadKind);
+    };
     if number >= event::carriers_of(kind) {
-        return BAD_NUMBER;
+        return Err(Refusal::BadNumber);
     }
-    let full = group.closed >= TICKS;
-    let marked = carrier_marked(group, kind, number);
-    let inside = carrier_in(group, kind, number);
-    let entering = event::is_entering(kind);
-    if full {
-        return NO_TICK_LEFT;
+    if group.closed >= TICKS {
+        return Err(Refusal::NoTickLeft);
     }
-    if marked {
-        return SECOND_EVENT;
+    if carrier_marked(group, known, number) {
+        return Err(Refusal::SecondEvent);
     }
-    if entering {
-        if inside { ALREADY_IN } else { 0 }
-    } else {
-        if inside { 0 } else { NOT_IN }
+    match (event::is_entering(kind), carrier_in(group, known, number)) {
+        (true, true) => Err(Refusal::AlreadyIn),
+        (true, false) => Ok(()),
+        (false, true) => Ok(()),
+        (false, false) => Err(Refusal::NotIn),
     }
 }

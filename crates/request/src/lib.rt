@@ -2,56 +2,51 @@
 #![tactic(auto)]
 
 ghost use Rattle.std.specs.Prelude.{◌≡◌, ◌<◌};
+ghost use Rattle.rules.specs.Refusal.{told, alone};
 ghost use Rattle.event.specs.Carrier.{carriers};
-ghost use Rattle.group.specs.Request.{marked_group, request_answer};
+ghost use Rattle.group.specs.Request.{request_refusal, marked_group, request_answer};
 
 use group::{Answer, Group};
-use rules::{LA, LJ, LL, LR, SA, SJ, SL, SR};
+use rules::kind::Kind;
+use rules::refusal::Refusal;
 
-fn marked(mut group: Group, kind: u32, number: u32) -> Group
+// The mark of an accepted request, set where the group stands.
+#[tactic(auto, unfolding(group::specs::Request::marked_group))]
+pub fn mark(g: &mut Group, kind: u32, number: u32)
     requires { number < carriers kind }
-    ensures { result ≡ marked_group group kind number }
+    ensures { g.new ≡ marked_group g.old kind number }
 {
-    let was_sa = group.sa;
-    let was_la = group.la;
-    let was_sr = group.sr;
-    let was_lr = group.lr;
-    let sa = sets::mark_set(was_sa, kind == SA, number);
-    let la = sets::mark_set(was_la, kind == LA, number);
-    let sr = sets::mark_set(was_sr, kind == SR, number);
-    let lr = sets::mark_set(was_lr, kind == LR, number);
-    group.sj = bits::mark_word(group.sj, kind == SJ, number);
-    group.lj = bits::mark_word(group.lj, kind == LJ, number);
-    group.sl = bits::mark_word(group.sl, kind == SL, number);
-    group.ll = bits::mark_word(group.ll, kind == LL, number);
-    group.sa = sa;
-    group.la = la;
-    group.sr = sr;
-    group.lr = lr;
-    group
-}
-
-pub fn request(group: Group, kind: u32, number: u32) -> Answer
-    ensures { result ≡ request_answer group kind number }
-{
-    let code = refusal::request_refusal(group, kind, number);
-    if code == 0 {
-        return Answer {
-            code: code,
-            group: marked(group, kind, number),
-        };
-    }
-    Answer {
-        code: code,
-        group: group,
+    match Kind::try_from(kind) {
+        Ok(Kind::SJ) => g.sj = bits::with_bit(g.sj, number),
+        Ok(Kind::LJ) => g.lj = bits::with_bit(g.lj, number),
+        Ok(Kind::SL) => g.sl = bits::with_bit(g.sl, number),
+        Ok(Kind::LL) => g.ll = bits::with_bit(g.ll, number),
+        Ok(Kind::SA) => g.sa = sets::with(g.sa, number),
+        Ok(Kind::LA) => g.la = sets::with(g.la, number),
+        Ok(Kind::SR) => g.sr = sets::with(g.sr, number),
+        Ok(Kind::LR) => g.lr = sets::with(g.lr, number),
+        Err(_) => (),
     }
 }
 
 // A request on a group lent and marked where it stands; a refusal leaves it as it was.
-pub fn request_at(g: &mut Group, kind: u32, number: u32) -> u32
-    ensures { (result ≡ (request_answer g.old kind number).code) × (g.new ≡ (request_answer g.old kind number).group) }
+pub fn request_at(g: &mut Group, kind: u32, number: u32) -> Result<(), Refusal>
+    ensures answer { told result ≡ alone (request_answer g.old kind number).code }
+    ensures group { g.new ≡ (request_answer g.old kind number).group }
 {
-    let asked = request(*g, kind, number);
-    *g = asked.group;
-    asked.code
+    refusal::request_refusal(g, kind, number)?;
+    mark(g, kind, number);
+    Ok(())
+}
+
+// kept: a group by value, and a number beside it, are the C interface
+pub fn request(group: Group, kind: u32, number: u32) -> Answer
+    ensures { result ≡ request_answer group kind number }
+{
+    let mut after = group;
+    let code = match request_at(&mut after, kind, number) {
+        Ok(()) => 0,
+        Err(refusal) => refusal.number(),
+    };
+    Answer { code, group: after }
 }

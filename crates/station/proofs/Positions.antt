@@ -7,15 +7,13 @@ use native.Mathlib.Nat.{not-suc-le-zero, le_of_suc-le-suc}
 use native.Mathlib.Omega.{arith}
 use lib.Dec.{eqb}
 use lib.ListN.{length, get_or}
-use lib.Seq.{take-length}
 use borrow.Author.Tests.{lt-leb}
 use Rattle.rules.specs.Ranges.{models, sheets, groups}
 use Rattle.bits.specs.Bit.{bit}
 use Rattle.bits.proofs.Bit.{bit_zero, bit_low, bit_half}
 use Rattle.bits.specs.Granted.{granted}
-use Rattle.group.specs.Read.{grant_of, read_answer}
+use Rattle.group.specs.Read.{Granted, Denied, grant_of, read_answer}
 use Rattle.group.specs.declared.Group.{Group}
-use Rattle.group.specs.declared.ReadAnswer.TheVariants.{Granted, Denied}
 use Rattle.station.specs.Mask.{grants, mask_of}
 use Rattle.station.proofs.Scan.{mask_fits}
 
@@ -54,4 +52,4 @@ grants_granted g model sheet hm hs = simp (lt-leb _ _ hm, lt-leb _ _ hs) (grant_
 
 -- "a 16-bit mask"
 pub mask_16 : (gs : List Group) (model sheet : ℕ) → length gs ≤ groups → mask_of gs model sheet < 2 ^ groups
-mask_16 gs model sheet h = simp take-length at (mask_fits gs (length gs) model sheet 0 h)
+mask_16 gs model sheet h = mask_fits gs model sheet h

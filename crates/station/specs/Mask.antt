@@ -1,10 +1,17 @@
 -- Which groups of a station's list grant a model a sheet.
-use Rattle.std.specs.Prelude.{Bool, cond, ◌||◌, List, [], ◌∷◌, ℕ, ◌+◌, ◌*◌, eqb, ltb, length}
+use Rattle.std.specs.Prelude.{Bool, cond, ◌||◌, List, [], ◌∷◌, ℕ, ◌+◌, ◌*◌, eqb, ltb, length, Result, Ok, Err}
 use Rattle.rules.specs.Ranges.{groups}
+use Rattle.rules.specs.Refusal.{refusal_number}
 use Rattle.rules.specs.Refusals.{bad_list}
+use Rattle.rules.specs.declared.refusal.Refusal.{Refusal}
 use Rattle.group.specs.Read.{read_refusal, grant_of, read_answer}
 use Rattle.group.specs.declared.Group.{Group}
 use Rattle.station.specs.declared.MaskAnswer.{MaskAnswer}
+
+-- what the code answers, in numbers
+abbrev pub mask_told : Result ℕ Refusal → MaskAnswer
+mask_told (Ok mask) = record { code = 0; mask = mask }
+mask_told (Err refusal) = record { code = refusal_number refusal; mask = 0 }
 
 -- the group answers a read of the sheet by granted
 abbrev pub grants : Group → ℕ → ℕ → Bool
@@ -18,10 +25,6 @@ mask_of (g ∷ gs) model sheet = cond (grants g model sheet) 1 0 + 2 * mask_of g
 -- "7: group list empty or longer than 16"; "list 7, 2"; 0 where neither is met
 unfoldable pub list_refusal : ℕ → ℕ → ℕ → ℕ
 list_refusal n model sheet = cond (eqb n 0 || ltb groups n) bad_list (read_refusal model sheet)
-
--- how many of n groups are looked at: none where the question is refused
-unfoldable pub looked_at : ℕ → ℕ → ℕ → ℕ
-looked_at n model sheet = cond (eqb (list_refusal n model sheet) 0) n 0
 
 -- the answer for n groups with this mask: a refusal has the mask 0
 unfoldable pub answer_with : ℕ → ℕ → ℕ → ℕ → MaskAnswer

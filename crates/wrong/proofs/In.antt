@@ -5,8 +5,8 @@ use mathlib.Core.List.{List, [], ◌∷◌}
 use Prim.Native.Nat.{ℕ, ◌<◌}
 use lib.ListN.{length}
 use Rattle.formula.specs.declared.Verdict.{Verdict}
+use Rattle.group.specs.Read.{ReadAnswer}
 use Rattle.group.specs.declared.Group.{Group}
-use Rattle.group.specs.declared.ReadAnswer.{ReadAnswer}
 use Rattle.station.specs.declared.MaskAnswer.{MaskAnswer}
 use Rattle.delivery.specs.declared.Delivery.{Delivery}
 use Rattle.strip.specs.declared.Side.{Side}

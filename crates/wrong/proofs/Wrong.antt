@@ -27,9 +27,9 @@ use Rattle.bits.proofs.Bit.{bit_zero}
 use Rattle.group.specs.Close.{close_answer}
 use Rattle.group.specs.Fresh.{fresh_group, fresh_answer}
 use Rattle.group.specs.Marks.{model_in, sheet_in}
+use Rattle.group.specs.Read.{Granted, Denied}
 use Rattle.group.specs.Request.{request_answer, request_refusal, marked_group}
 use Rattle.group.specs.declared.Group.{Group}
-use Rattle.group.specs.declared.ReadAnswer.TheVariants.{Granted, Denied}
 use Rattle.delivery.specs.Answer.{buffer_after}
 use Rattle.delivery.specs.declared.Delivery.{Delivery}
 use Rattle.delivery.specs.declared.Delivery.TheVariants.{Delivered, Refused}

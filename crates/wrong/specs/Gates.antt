@@ -16,10 +16,9 @@ use Rattle.strip.specs.History.{history_of}
 use Rattle.loader.specs.Judge.{packed, judged_from}
 use Rattle.group.specs.Fresh.{fresh_answer, fresh_group}
 use Rattle.group.specs.Marks.{model_in, sheet_in}
+use Rattle.group.specs.Read.{ReadAnswer, Granted, Denied, Refused}
 use Rattle.group.specs.Request.{marked_group}
 use Rattle.group.specs.declared.Group.{Group}
-use Rattle.group.specs.declared.ReadAnswer.{ReadAnswer}
-use Rattle.group.specs.declared.ReadAnswer.TheVariants.{Granted, Denied, Refused}
 use Rattle.station.specs.declared.MaskAnswer.{MaskAnswer}
 use Rattle.delivery.specs.declared.Delivery.{Delivery}
 use Rattle.delivery.specs.declared.Delivery.TheVariants as delivery
