@@ -10,6 +10,7 @@ ghost use Rattle.loader.specs.Short.{short};
 ghost use Rattle.loader.specs.Judge.{whole_strip, packed, judged_from};
 
 use formula::Verdict;
+use rules::refusal::Refusal;
 
 // Strips of at most so many words are judged in lists of this length: to clear lists for the longest takes longer than to judge a short strip.
 const SHORT: usize = 64;
@@ -21,35 +22,29 @@ fn whole(length: usize) -> bool
     (length % 4 == 0) & (length <= 4 * rules::EVENTS)
 }
 
-fn wide(x: u32) -> u64
-    ensures { (result ≡ x) × (result < 2 ^ 32) }
+// The answer's number and value in one number.
+pub fn pack(answer: Result<Verdict, Refusal>) -> u64
+    ensures { result ≡ packed answer }
 {
-    x as u64
+    u64::from(formula::number(answer)) * 4294967296 + u64::from(formula::value(answer))
 }
 
-// A verdict's number and value in one number.
-pub fn pack(v: Verdict) -> u64
-    ensures { result ≡ packed v }
-{
-    wide(formula::number(v)) * 4294967296 + wide(formula::value(v))
-}
-
-pub fn judged(m: &[u8], s: &[u8], now: u32) -> Verdict
+pub fn judged(m: &[u8], s: &[u8], now: u32) -> Result<Verdict, Refusal>
     ensures { result ≡ judged_from m.now s.now now }
 {
     if now > rules::TICKS {
-        return Verdict::Refused(rules::LATE_NOW, 0);
+        return Err(Refusal::LateNow);
     }
     if !whole(m.len()) {
-        return Verdict::Refused(rules::LONG_MODEL, 0);
+        return Err(Refusal::LongModel);
     }
     if !whole(s.len()) {
-        return Verdict::Refused(rules::LONG_SHEET, 0);
+        return Err(Refusal::LongSheet);
     }
     on_words(m, s, now)
 }
 
-fn on_words(m: &[u8], s: &[u8], now: u32) -> Verdict
+fn on_words(m: &[u8], s: &[u8], now: u32) -> Result<Verdict, Refusal>
     requires { (length m.now / 4 ≤ events) × (length s.now / 4 ≤ events) }
     ensures { result ≡ judged_by (words_in m.now) (words_in s.now) now }
 {
@@ -60,7 +55,7 @@ fn on_words(m: &[u8], s: &[u8], now: u32) -> Verdict
     }
 }
 
-fn in_short_lists(m: &[u8], s: &[u8], now: u32) -> Verdict
+fn in_short_lists(m: &[u8], s: &[u8], now: u32) -> Result<Verdict, Refusal>
     requires { (length m.now / 4 ≤ short) × (length s.now / 4 ≤ short) }
     ensures { result ≡ judged_by (words_in m.now) (words_in s.now) now }
 {
@@ -69,7 +64,7 @@ fn in_short_lists(m: &[u8], s: &[u8], now: u32) -> Verdict
     in_lists(m, s, now, &mut model, &mut sheet)
 }
 
-fn in_long_lists(m: &[u8], s: &[u8], now: u32) -> Verdict
+fn in_long_lists(m: &[u8], s: &[u8], now: u32) -> Result<Verdict, Refusal>
     requires { (length m.now / 4 ≤ events) × (length s.now / 4 ≤ events) }
     ensures { result ≡ judged_by (words_in m.now) (words_in s.now) now }
 {
@@ -79,7 +74,13 @@ fn in_long_lists(m: &[u8], s: &[u8], now: u32) -> Verdict
 }
 
 // The strips' words, one strip after the other, each to the front of its lent list, and the judge on them.
-fn in_lists(m: &[u8], s: &[u8], now: u32, model: &mut [u32], sheet: &mut [u32]) -> Verdict
+fn in_lists(
+    m: &[u8],
+    s: &[u8],
+    now: u32,
+    model: &mut [u32],
+    sheet: &mut [u32],
+) -> Result<Verdict, Refusal>
     requires { (length m.now / 4 ≤ length model.old) × (length s.now / 4 ≤ length sheet.old) }
     ensures { result ≡ judged_by (words_in m.now) (words_in s.now) now }
 {
