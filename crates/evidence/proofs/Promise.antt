@@ -4,6 +4,8 @@ use mathlib.Core.Bool.{true≢false}
 use mathlib.Core.Logic.{◌⊎◌, inl, inr, ⊎_elim}
 use mathlib.Core.List.{List}
 use Prim.Native.Nat.{ℕ, ◌<◌}
+use Rattle.std.specs.Prelude.{Result, Ok}
+use Rattle.rules.specs.declared.refusal.Refusal.{Refusal}
 use native.Mathlib.Omega.{arith}
 use lib.Dec.{eqb}
 use lib.ListN.{length, get_or}
@@ -39,14 +41,14 @@ located s r k t n e =
     record { inside = rw at v.inside; tick = rw at v.tick; kind = rw at v.kind }
 
 module _ (m s : List ℕ) (now : ℕ) (a : StripsAccepted m s now) (t : ℕ) where
-  moment_add : (v : Verdict) → Judged (history_of m) (history_of s) now v → v ≡ Granted (Add t) → ByAdd (history_of m) (history_of s) t
+  moment_add : (v : Result Verdict Refusal) → Judged (history_of m) (history_of s) now v → v ≡ Ok (Granted (Add t)) → ByAdd (history_of m) (history_of s) t
   moment_add v (granted_by_add u g l b) e = let q : u ≡ t = cc e in rw (← q) b
   moment_add v (granted_by_join u g l b) e = absurd (true≢false (cc e))
   moment_add v (none h) e = absurd (true≢false (cc e))
   moment_add v (strict_leave u w g l r b) e = absurd (true≢false (cc e))
   moment_add v (strict_remove u w g l r b) e = absurd (true≢false (cc e))
 
-  moment_join : (v : Verdict) → Judged (history_of m) (history_of s) now v → v ≡ Granted (Join t) → ByJoin (history_of m) (history_of s) t
+  moment_join : (v : Result Verdict Refusal) → Judged (history_of m) (history_of s) now v → v ≡ Ok (Granted (Join t)) → ByJoin (history_of m) (history_of s) t
   moment_join v (granted_by_join u g l b) e = let q : u ≡ t = cc e in rw (← q) (⊎_elim (λ x. absurd (b x)) (λ y. y) l.there)
   moment_join v (granted_by_add u g l b) e = absurd (true≢false (cc e))
   moment_join v (none h) e = absurd (true≢false (cc e))
@@ -54,7 +56,7 @@ module _ (m s : List ℕ) (now : ℕ) (a : StripsAccepted m s now) (t : ℕ) whe
   moment_join v (strict_remove u w g l r b) e = absurd (true≢false (cc e))
 
   -- the evidence by add starts with the sheet's add record of the moment's tick
-  pub evidence_add : judged_by m s now ≡ Granted (Add t) → Record s SA t ⊎ Record s LA t
+  pub evidence_add : judged_by m s now ≡ Ok (Granted (Add t)) → Record s SA t ⊎ Record s LA t
   evidence_add e =
       let r = good_rising Sheet now s a.good_s in
       ⊎_elim
@@ -63,7 +65,7 @@ module _ (m s : List ℕ) (now : ℕ) (a : StripsAccepted m s now) (t : ℕ) whe
       (moment_add (judged_by m s now) (judge_means m s now a) e).0
 
   -- the evidence by join starts with the model's liberal join
-  pub evidence_join : judged_by m s now ≡ Granted (Join t) → Record m LJ t
+  pub evidence_join : judged_by m s now ≡ Ok (Granted (Join t)) → Record m LJ t
   evidence_join e = located m (good_rising Model now m a.good_m) LJ t (λ q. omega arith) (moment_join (judged_by m s now) (judge_means m s now a) e).0
 
 -- two parts that meet the evidence's promise hold the same words at the same place

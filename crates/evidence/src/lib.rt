@@ -26,7 +26,7 @@ pub fn evidence<'a>(m: &'a [u32], s: &'a [u32], now: u32) -> &'a [u32]
     ensures { (result.now ≡ evidence_of (judged_by m.now s.now now) m.now s.now)
         × (result.ref_ptr ≡ start_of (judged_by m.now s.now now) m.entry s.entry) }
 {
-    let Verdict::Granted(moment) = judge::judge(m, s, now) else {
+    let Ok(Verdict::Granted(moment)) = judge::judge(m, s, now) else {
         return &m[0..0];
     };
     match moment {

@@ -6,6 +6,8 @@ use Prim.Native.Nat.{ℕ, zero, suc, ◌≤◌, ◌<◌}
 use native.Mathlib.Omega.{arith}
 use native.Mathlib.Nat.{eq-or-lt_of_le}
 use lib.Dec.{eqb, ltb}
+use Rattle.std.specs.Prelude.{Result, Ok}
+use Rattle.rules.specs.declared.refusal.Refusal.{Refusal}
 use borrow.Author.Tests.{lt-ltb, ltb-true, ltb-false, ne_eqb, eq-eqb, eqb-true, eqb-false}
 use Rattle.base.proofs.First.{first_is, first_before, first_there}
 use Rattle.base.proofs.Truth.{either, both}
@@ -131,16 +133,16 @@ module _ (model sheet : History) where
   unfolding denied
   caused e b q = rw q
 
-  pub judged_is : (now : ℕ) {v : Verdict} → Judged model sheet now v → v ≡ verdict model sheet now
-  judged_is now (granted_by_add t g l a) = sym (is_granted now t g (latest_is now t l) ∙ named t true ((means_add model sheet t).1 a))
-  judged_is now (granted_by_join t g l a) = sym (is_granted now t g (latest_is now t l) ∙ named t false (unsaid (means_add model sheet t) a))
-  judged_is now (none h) = sym (is_none now (λ g. grant_moment model sheet now g h) (latest_none now h))
+  pub judged_is : (now : ℕ) {v : Result Verdict Refusal} → Judged model sheet now v → v ≡ Ok (verdict model sheet now)
+  judged_is now (granted_by_add t g l a) = ap Ok (sym (is_granted now t g (latest_is now t l) ∙ named t true ((means_add model sheet t).1 a)))
+  judged_is now (granted_by_join t g l a) = ap Ok (sym (is_granted now t g (latest_is now t l) ∙ named t false (unsaid (means_add model sheet t) a)))
+  judged_is now (none h) = ap Ok (sym (is_none now (λ g. grant_moment model sheet now g h) (latest_none now h)))
   judged_is now (strict_leave t e g l r a) =
-      sym (is_denied now t e g l.from (latest_is now t l) (earliest_is now t e r) ∙ caused e true (eq-eqb _ _ a))
+      ap Ok (sym (is_denied now t e g l.from (latest_is now t l) (earliest_is now t e r) ∙ caused e true (eq-eqb _ _ a)))
   judged_is now (strict_remove t e g l r a) =
-      sym (is_denied now t e g l.from (latest_is now t l) (earliest_is now t e r) ∙ caused e false (ne_eqb _ _ a))
+      ap Ok (sym (is_denied now t e g l.from (latest_is now t l) (earliest_is now t e r) ∙ caused e false (ne_eqb _ _ a)))
 
-  some : (now t : ℕ) → Latest model sheet now t → (v : Verdict) × Judged model sheet now v
+  some : (now t : ℕ) → Latest model sheet now t → (v : Verdict) × Judged model sheet now (Ok v)
   some now t l = ⊎_elim
       (λ y.
       let g = (means_grant model sheet now).0 y in
@@ -161,12 +163,12 @@ module _ (model sheet : History) where
       (earliest_or now t (earliest model sheet t now) refl))
       (either (grant model sheet now))
 
-  any : (now : ℕ) → (v : Verdict) × Judged model sheet now v
+  any : (now : ℕ) → (v : Verdict) × Judged model sheet now (Ok v)
   any now = ⊎_elim (λ h. (Denied None, none h)) (λ l. some now l.0 l.1) (latest_or now)
 
-  pub judged : (now : ℕ) → Judged model sheet now (verdict model sheet now)
+  pub judged : (now : ℕ) → Judged model sheet now (Ok (verdict model sheet now))
   judged now = let a = any now in rw (← judged_is now a.1) a.1
 
   -- it holds of one verdict only
-  pub judged_once : (now : ℕ) {v w : Verdict} → Judged model sheet now v → Judged model sheet now w → v ≡ w
+  pub judged_once : (now : ℕ) {v w : Result Verdict Refusal} → Judged model sheet now v → Judged model sheet now w → v ≡ w
   judged_once now x y = judged_is now x ∙ sym (judged_is now y)

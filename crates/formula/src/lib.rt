@@ -4,59 +4,50 @@
 ghost use Rattle.std.specs.Prelude.{◌≡◌};
 ghost use Rattle.formula.specs.Answer.{verdict_number, verdict_value};
 
+use rules::refusal::Refusal;
+
 // A tick where a bracket of the formula holds.
-#[derive(Clone, Copy)]
+#[derive(Clone, Copy, Debug, PartialEq, Eq)]
 pub enum Moment {
     Add(u32),
     Join(u32),
 }
 
 // Why a grant is not there: no moment ever, or the strict event that ended it, with its tick.
-#[derive(Clone, Copy)]
+#[derive(Clone, Copy, Debug, PartialEq, Eq)]
 pub enum Cause {
     None,
     StrictLeave(u32),
     StrictRemove(u32),
 }
 
-#[derive(Clone, Copy)]
+#[derive(Clone, Copy, Debug, PartialEq, Eq)]
 pub enum Verdict {
     Granted(Moment),
     Denied(Cause),
-    // a refusal number and its place
-    Refused(u32, u32),
 }
 
-pub fn number(v: Verdict) -> u32
-    ensures { result ≡ verdict_number v }
+pub fn number(answer: Result<Verdict, Refusal>) -> u32
+    ensures { result ≡ verdict_number answer }
 {
-    match v {
-        Verdict::Granted(moment) => match moment {
-            Moment::Add(_) => 101,
-            Moment::Join(_) => 102,
-        },
-        Verdict::Denied(cause) => match cause {
-            Cause::None => 103,
-            Cause::StrictLeave(_) => 104,
-            Cause::StrictRemove(_) => 105,
-        },
-        Verdict::Refused(refusal, _) => refusal,
+    match answer {
+        Ok(Verdict::Granted(Moment::Add(_))) => 101,
+        Ok(Verdict::Granted(Moment::Join(_))) => 102,
+        Ok(Verdict::Denied(Cause::None)) => 103,
+        Ok(Verdict::Denied(Cause::StrictLeave(_))) => 104,
+        Ok(Verdict::Denied(Cause::StrictRemove(_))) => 105,
+        Err(refusal) => refusal.number(),
     }
 }
 
-pub fn value(v: Verdict) -> u32
-    ensures { result ≡ verdict_value v }
+pub fn value(answer: Result<Verdict, Refusal>) -> u32
+    ensures { result ≡ verdict_value answer }
 {
-    match v {
-        Verdict::Granted(moment) => match moment {
-            Moment::Add(tick) => tick,
-            Moment::Join(tick) => tick,
-        },
-        Verdict::Denied(cause) => match cause {
-            Cause::None => 0,
-            Cause::StrictLeave(tick) => tick,
-            Cause::StrictRemove(tick) => tick,
-        },
-        Verdict::Refused(_, place) => place,
+    match answer {
+        Ok(Verdict::Granted(Moment::Add(tick) | Moment::Join(tick))) => tick,
+        Ok(Verdict::Denied(Cause::None)) => 0,
+        Ok(Verdict::Denied(Cause::StrictLeave(tick))) => tick,
+        Ok(Verdict::Denied(Cause::StrictRemove(tick))) => tick,
+        Err(refusal) => refusal.place(),
     }
 }

@@ -7,15 +7,13 @@ pub mod scan;
 ghost use Rattle.judge.specs.Judge.{Judges};
 
 use formula::Verdict;
+use rules::refusal::Refusal;
 
-pub fn judge(m: &[u32], s: &[u32], now: u32) -> Verdict
+pub fn judge(m: &[u32], s: &[u32], now: u32) -> Result<Verdict, Refusal>
     ensures { Judges m.now s.now now result }
 {
-    let checked = check::check(m, s, now);
-    if checked.code != 0 {
-        return Verdict::Refused(checked.code, checked.place);
-    }
+    check::check(m, s, now)?;
     let seen = scan::scan(m, s);
     let stands = seen.standing;
-    stepping::told(stands)
+    Ok(stepping::told(stands))
 }

@@ -7,6 +7,8 @@ use mathlib.Core.Logic.{inl, inr, ⊎_elim}
 use Prim.Native.Nat.{ℕ, suc, ◌≤◌, ◌<◌, ◌-◌}
 use native.Mathlib.Omega.{arith}
 use lib.Dec.{ltb}
+use Rattle.std.specs.Prelude.{Result, Ok, Err}
+use Rattle.rules.specs.declared.refusal.Refusal.{Refusal}
 use borrow.Author.Tests.{ltb-true, ltb-false}
 use Rattle.base.proofs.Truth.{either}
 use Rattle.formula.specs.Formula.{Grant}
@@ -14,7 +16,7 @@ use Rattle.formula.specs.Judged.{Judged, Latest, Earliest, granted_by_add, grant
 use Rattle.formula.specs.declared.Cause.TheVariants.{None, StrictLeave, StrictRemove}
 use Rattle.formula.specs.declared.Moment.{Moment}
 use Rattle.formula.specs.declared.Verdict.{Verdict}
-use Rattle.formula.specs.declared.Verdict.TheVariants.{Granted, Denied, Refused}
+use Rattle.formula.specs.declared.Verdict.TheVariants.{Granted, Denied}
 use Rattle.formula.proofs.Held.{grant_moment, held_since, held_before, ended_from}
 use Rattle.strip.specs.History.{history_of}
 use Rattle.judge.specs.Judge.{StripsAccepted, judged_by}
@@ -58,7 +60,7 @@ module _ (m s : List ℕ) (now : ℕ) (a : StripsAccepted m s now) (l : List Spa
       (λ k h b y. ended_from (history_of m) (history_of s) now t latest e earliest k (omega arith) b ((x.exactly k (omega arith) b).0 y)) in
       record { span = p.0; last = p.1; ends = omega (arith, p.2); before = earliest.upto }
 
-  told : (v : Verdict) → Judged (history_of m) (history_of s) now v → VerdictSays l now v
+  told : (v : Result Verdict Refusal) → Judged (history_of m) (history_of s) now v → VerdictSays l now v
   told v (granted_by_add t g r b) = open_since t g r
   told v (granted_by_join t g r b) = open_since t g r
   told v (none h) = no_pair now 0 l x.apart (λ t from upto y. grant_moment (history_of m) (history_of s) t ((x.exactly t from upto).0 y) (λ i c d. h i c (omega arith)))
@@ -76,32 +78,32 @@ module _ (m s : List ℕ) (now : ℕ) (a : StripsAccepted m s now) (l : List Spa
   unfolding LastIs
   no_last q e x = subst (λ (k : List Span). LastIs k q) e x
 
-  still_open : (v : Verdict) → VerdictSays l now v → (q : Span) → LastIs l q → q.last ≡ now → (y : Moment) × (v ≡ Granted y)
-  still_open (Granted y) o q last e = (y, refl)
-  still_open (Denied None) o q last e = absurd (no_last q o last)
-  still_open (Denied (StrictLeave t)) o q last e = absurd (omega (arith, o.before, o.ends, e, same_end o.span q o.last last))
-  still_open (Denied (StrictRemove t)) o q last e = absurd (omega (arith, o.before, o.ends, e, same_end o.span q o.last last))
-  still_open (Refused number place) o q last e = absurd o
+  still_open : (v : Result Verdict Refusal) → VerdictSays l now v → (q : Span) → LastIs l q → q.last ≡ now → (y : Moment) × (v ≡ Ok (Granted y))
+  still_open (Ok (Granted y)) o q last e = (y, refl)
+  still_open (Ok (Denied None)) o q last e = absurd (no_last q o last)
+  still_open (Ok (Denied (StrictLeave t))) o q last e = absurd (omega (arith, o.before, o.ends, e, same_end o.span q o.last last))
+  still_open (Ok (Denied (StrictRemove t))) o q last e = absurd (omega (arith, o.before, o.ends, e, same_end o.span q o.last last))
+  still_open (Err refusal) o q last e = absurd o
 
-  pub open_granted : (q : Span) → LastIs l q → q.last ≡ now → (y : Moment) × (judged_by m s now ≡ Granted y)
+  pub open_granted : (q : Span) → LastIs l q → q.last ≡ now → (y : Moment) × (judged_by m s now ≡ Ok (Granted y))
   open_granted = still_open (judged_by m s now) judge_says
 
-  over : (v : Verdict) → VerdictSays l now v → (q : Span) → LastIs l q → q.last < now → StrictAt v (suc q.last)
-  over (Granted y) o q last b = absurd (omega (arith, o.ends, same_end o.span q o.last last))
-  over (Denied None) o q last b = absurd (no_last q o last)
-  over (Denied (StrictLeave t)) o q last b = inl (ap (λ (k : ℕ). Denied (StrictLeave k)) (omega (arith, o.ends, same_end o.span q o.last last)))
-  over (Denied (StrictRemove t)) o q last b = inr (ap (λ (k : ℕ). Denied (StrictRemove k)) (omega (arith, o.ends, same_end o.span q o.last last)))
-  over (Refused number place) o q last b = absurd o
+  over : (v : Result Verdict Refusal) → VerdictSays l now v → (q : Span) → LastIs l q → q.last < now → StrictAt v (suc q.last)
+  over (Ok (Granted y)) o q last b = absurd (omega (arith, o.ends, same_end o.span q o.last last))
+  over (Ok (Denied None)) o q last b = absurd (no_last q o last)
+  over (Ok (Denied (StrictLeave t))) o q last b = inl (ap (λ (k : ℕ). Ok (Denied (StrictLeave k))) (omega (arith, o.ends, same_end o.span q o.last last)))
+  over (Ok (Denied (StrictRemove t))) o q last b = inr (ap (λ (k : ℕ). Ok (Denied (StrictRemove k))) (omega (arith, o.ends, same_end o.span q o.last last)))
+  over (Err refusal) o q last b = absurd o
 
   pub over_denied : (q : Span) → LastIs l q → q.last < now → StrictAt (judged_by m s now) (suc q.last)
   over_denied = over (judged_by m s now) judge_says
 
-  spanless : (v : Verdict) → VerdictSays l now v → l ≡ [] → v ≡ Denied None
-  spanless (Granted y) o e = absurd (no_last o.span e o.last)
-  spanless (Denied None) o e = refl
-  spanless (Denied (StrictLeave t)) o e = absurd (no_last o.span e o.last)
-  spanless (Denied (StrictRemove t)) o e = absurd (no_last o.span e o.last)
-  spanless (Refused number place) o e = absurd o
+  spanless : (v : Result Verdict Refusal) → VerdictSays l now v → l ≡ [] → v ≡ Ok (Denied None)
+  spanless (Ok (Granted y)) o e = absurd (no_last o.span e o.last)
+  spanless (Ok (Denied None)) o e = refl
+  spanless (Ok (Denied (StrictLeave t))) o e = absurd (no_last o.span e o.last)
+  spanless (Ok (Denied (StrictRemove t))) o e = absurd (no_last o.span e o.last)
+  spanless (Err refusal) o e = absurd o
 
-  pub spanless_none : l ≡ [] → judged_by m s now ≡ Denied None
+  pub spanless_none : l ≡ [] → judged_by m s now ≡ Ok (Denied None)
   spanless_none = spanless (judged_by m s now) judge_says

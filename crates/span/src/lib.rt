@@ -1,20 +1,40 @@
 // When could a model read a sheet? From their strips and now, the spans of ticks in which the grant held, as pairs (first tick, last tick).
 #![tactic(auto)]
 
-ghost use Rattle.std.specs.Prelude.{◌≡◌, ◌≤◌, length};
+ghost use Rattle.std.specs.Prelude.{◌≡◌, length};
 ghost use Rattle.judge.specs.Judge.{StripsAccepted};
-ghost use Rattle.span.specs.Answer.{spans_in, spans_answer, list_after};
-ghost use Rattle.spanning.specs.Steps.{most, pairs_from};
+ghost use Rattle.span.specs.Answer.{spans_in, counted, spans_answer, list_after};
+ghost use Rattle.spanning.specs.Steps.{pairs_from};
 
+use rules::refusal::Refusal;
 use spanning::Spanning;
 
-// A refusal's number with its place, 0 where it has none, and count 0; or 0 and 0 with how many spans there are.
+// For C, in numbers: a refusal's number with its place, 0 where it has none, and count 0; or 0 and 0 with how many spans there are.
 #[repr(C)]
 #[derive(Clone, Copy)]
 pub struct SpansAnswer {
     pub code: u32,
     pub place: u32,
     pub count: u32,
+}
+
+impl From<Result<u32, Refusal>> for SpansAnswer {
+    ghost from_gives = { λ answer numbers. numbers ≡ counted answer };
+
+    fn from(answer: Result<u32, Refusal>) -> Self {
+        match answer {
+            Ok(count) => SpansAnswer {
+                code: 0,
+                place: 0,
+                count,
+            },
+            Err(refusal) => SpansAnswer {
+                code: refusal.number(),
+                place: refusal.place(),
+                count: 0,
+            },
+        }
+    }
 }
 
 // One pass over both strips counts the spans, and writes those pairs for which the list has room.
@@ -34,42 +54,20 @@ fn pairs(m: &[u32], s: &[u32], now: u32, list: &mut [u32]) -> usize
     last.count
 }
 
-// All pairs are written.
-fn given(count: usize) -> SpansAnswer
-    requires { count ≤ most }
-    ensures { result ≡ record { code = 0; place = 0; count = count } }
+// How many spans there are, all of them written.
+pub fn spans(m: &[u32], s: &[u32], now: u32, list: &mut [u32]) -> Result<u32, Refusal>
+    ensures { (counted result ≡ spans_answer m.now s.now now (length list.old)) × (list.new ≡ list_after m.now s.now now list.old) }
 {
-    SpansAnswer {
-        code: 0,
-        place: 0,
-        count: count as u32,
-    }
-}
-
-pub fn spans(m: &[u32], s: &[u32], now: u32, list: &mut [u32]) -> SpansAnswer
-    ensures { (result ≡ spans_answer m.now s.now now (length list.old)) × (list.new ≡ list_after m.now s.now now list.old) }
-{
-    let checked = judge::check::check(m, s, now);
-    if checked.code != 0 {
-        return SpansAnswer {
-            code: checked.code,
-            place: checked.place,
-            count: 0,
-        };
-    }
+    judge::check::check(m, s, now)?;
     // As many numbers as the strips have words are always enough.
     if list.len() >= m.len() + s.len() {
-        return given(pairs(m, s, now, list));
+        return Ok(pairs(m, s, now, list) as u32);
     }
     // With no room the pass only counts: nothing is written before it is known that all pairs fit.
     let room: usize = 0;
     let count = pairs(m, s, now, &mut list[0..room]);
     if list.len() / 2 < count {
-        return SpansAnswer {
-            code: rules::TOO_MANY_SPANS,
-            place: 0,
-            count: 0,
-        };
+        return Err(Refusal::TooManySpans);
     }
-    given(pairs(m, s, now, list))
+    Ok(pairs(m, s, now, list) as u32)
 }

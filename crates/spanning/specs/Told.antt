@@ -1,10 +1,11 @@
 -- What the judge's verdict at now says of the spans. Which of the two strict events it names, which tick of the last span is the latest moment, and by what,
 -- the spans can't tell; `Judged` does.
-use Rattle.std.specs.Prelude.{◌≡◌, List, [], ◌∷◌, ◌⊎◌, ℕ, suc, ◌≤◌}
+use Rattle.std.specs.Prelude.{◌≡◌, List, [], ◌∷◌, ◌⊎◌, ℕ, suc, ◌≤◌, Result, Ok, Err}
+use Rattle.rules.specs.declared.refusal.Refusal.{Refusal}
 use Rattle.formula.specs.Answer.{verdict_value}
 use Rattle.formula.specs.declared.Cause.TheVariants.{None, StrictLeave, StrictRemove}
 use Rattle.formula.specs.declared.Verdict.{Verdict}
-use Rattle.formula.specs.declared.Verdict.TheVariants.{Granted, Denied, Refused}
+use Rattle.formula.specs.declared.Verdict.TheVariants.{Granted, Denied}
 use Rattle.spanning.specs.Spans.{Span}
 
 -- the last of the pairs
@@ -29,13 +30,13 @@ pub record OverAt (l : List Span) (now e : ℕ) : Type 0 where
   pub before : e ≤ now
 
 -- "the cause's tick is the tick right after the last span's last tick"
-abbrev pub VerdictSays : List Span → ℕ → Verdict → Type 0
-VerdictSays l now (Granted moment) = OpenSince l now (verdict_value (Granted moment))
-VerdictSays l now (Denied None) = l ≡ []
-VerdictSays l now (Denied (StrictLeave e)) = OverAt l now e
-VerdictSays l now (Denied (StrictRemove e)) = OverAt l now e
-VerdictSays l now (Refused number place) = ⊥
+abbrev pub VerdictSays : List Span → ℕ → Result Verdict Refusal → Type 0
+VerdictSays l now (Ok (Granted moment)) = OpenSince l now (verdict_value (Ok (Granted moment)))
+VerdictSays l now (Ok (Denied None)) = l ≡ []
+VerdictSays l now (Ok (Denied (StrictLeave e))) = OverAt l now e
+VerdictSays l now (Ok (Denied (StrictRemove e))) = OverAt l now e
+VerdictSays l now (Err refusal) = ⊥
 
 -- denied by a strict cause with tick e
-abbrev pub StrictAt : Verdict → ℕ → Type 0
-StrictAt v e = (v ≡ Denied (StrictLeave e)) ⊎ (v ≡ Denied (StrictRemove e))
+abbrev pub StrictAt : Result Verdict Refusal → ℕ → Type 0
+StrictAt v e = (v ≡ Ok (Denied (StrictLeave e))) ⊎ (v ≡ Ok (Denied (StrictRemove e)))
