@@ -5,7 +5,9 @@ mod file;
 mod keep;
 
 use answer::{Failed, Out};
+use ask::Asked;
 use ask::input::Input;
+use group::Group;
 use keep::Keeper;
 use std::env::{Env, FillError};
 use std::io::Read;
@@ -16,12 +18,28 @@ use std::rt::Files;
 fn converse<H: Files + Print, R: Read>(rt: &H, reader: &mut R, out: &mut Out) {
     let mut input = Input::new();
     let mut keeper = Keeper::new();
+    let mut last = Group::fresh(0);
     for _ in 0..u64::MAX {
         if let Some(line) = input.line() {
             out.make_room(rt);
             match ask::hear(line) {
                 Ok(None) => {}
-                Ok(Some(asked)) => out.answer(keeper.answer(rt, asked)),
+                Ok(Some(Asked::Read { model, sheet })) => out.answer(keep::read(last.group, model, sheet)),
+                Ok(Some(Asked::Models { sheet })) => out.answer(keep::models(last.group, sheet)),
+                Ok(Some(Asked::Request { kind, number })) => {
+                    last = request::request(last.group, kind, number);
+                    let event = kept::word(last.group.closed, kind, number);
+                    out.answer(keeper.requested(last.code, event));
+                }
+                Ok(Some(Asked::Close)) => {
+                    last = close::close(last.group);
+                    out.answer(keeper.closed(last.code, last.group.closed));
+                }
+                Ok(Some(asked)) => {
+                    let mut group = last.group;
+                    out.answer(keeper.seldom(rt, &mut group, asked));
+                    last.group = group;
+                }
                 Err(reason) => out.answer(Err(Failed::What(reason))),
             }
         } else {
