@@ -1,11 +1,9 @@
 // The keeper's answers, each a line.
 #![tactic(auto)]
 
-mod out;
+pub mod out;
 
-pub use out::Out;
-
-use ask::Reason;
+use ask::reason::Reason;
 use std::fmt;
 
 // What a command is answered where nothing fails.
@@ -50,13 +48,8 @@ pub struct Refusal {
 }
 
 impl Refusal {
-    // A refusal that names no place.
-    pub fn new(number: u32) -> Refusal {
-        Refusal { number, place: None }
-    }
-
-    // A refusal with the place that it was found at, where it is one that names it.
-    pub fn at(number: u32, place: u32) -> Refusal {
+    // The place is what the call answers beside the number, whether that is a refusal which names it or not.
+    pub fn new(number: u32, place: u32) -> Refusal {
         let names = matches!(number, rules::BAD_RECORD | rules::NOT_RISING | rules::ILL_FORMED | rules::NOT_IN_STORE | rules::BAD_ENTRY);
         Refusal { number, place: names.then_some(place) }
     }

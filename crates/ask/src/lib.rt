@@ -1,16 +1,21 @@
 // What the next line of standard input asks for: a command with its numbers, or the reason why it is none.
 #![tactic(auto)]
 
+ghost use Rattle.std.specs.Prelude.{◌≡◌, ◌≤◌, length, OnOk};
+
 pub mod input;
-mod reason;
-mod words;
+pub mod reason;
+mod word;
 
-pub use reason::Reason;
-
-use words::{decimal, exactly, file};
+use reason::Reason;
+use std::cmp::Ordering;
+use word::{decimal, file};
 
 // The longest line.
 pub const LINE: usize = 255;
+
+// The words of the longest command, and one more, which shows that there are too many.
+const WORDS: usize = 5;
 
 // The longest delivery buffer.
 pub const BUFFER: usize = 1114112;
@@ -30,6 +35,17 @@ pub enum Asked<'a> {
     Deliver { model: u32, room: usize, file: &'a [u8] },
 }
 
+// Whether the words behind a command's name are as many as it takes.
+fn exactly(words: &[&[u8]], takes: usize) -> Result<(), Reason>
+    ensures { OnOk result (length words.now ≡ takes) }
+{
+    match words.len().cmp(&takes) {
+        Ordering::Less => Err(Reason::Missing),
+        Ordering::Equal => Ok(()),
+        Ordering::Greater => Err(Reason::Extra),
+    }
+}
+
 fn request<'a>(kind: u32, words: &[&'a [u8]]) -> Result<Asked<'a>, Reason> {
     exactly(words, 1)?;
     Ok(Asked::Request { kind, number: decimal(words[0])? })
@@ -44,12 +60,29 @@ fn room(word: &[u8]) -> Result<usize, Reason> {
     Ok(room)
 }
 
+// The words at the front of a line, and how many they are.
+fn words(line: &[u8]) -> ([&[u8]; WORDS], usize)
+    ensures { result.1 ≤ 5 }
+{
+    let mut words = [&line[..0]; WORDS];
+    let mut found = line
+        .split(|byte| *byte == b' ')
+        .filter(|word| !word.is_empty());
+    for k in 0..WORDS {
+        let Some(word) = found.next() else {
+            return (words, k);
+        };
+        words[k] = word;
+    }
+    (words, WORDS)
+}
+
 // What a line asks for; nothing, where it has no words.
 pub fn hear(line: &[u8]) -> Result<Option<Asked<'_>>, Reason> {
     if line.len() > LINE {
         return Err(Reason::LongLine);
     }
-    let (words, count) = words::of(line);
+    let (words, count) = words(line);
     let [name, words @ ..] = &words[..count] else {
         return Ok(None);
     };

@@ -4,7 +4,8 @@
 mod file;
 mod keep;
 
-use answer::{Failed, Out};
+use answer::out::Out;
+use answer::{Answer, Failed};
 use ask::Asked;
 use ask::input::Input;
 use group::Group;
@@ -20,35 +21,45 @@ fn converse<H: Files + Print, R: Read>(rt: &H, reader: &mut R, out: &mut Out) {
     let mut keeper = Keeper::new();
     let mut last = Group::fresh(0);
     for _ in 0..u64::MAX {
-        if let Some(line) = input.line() {
-            out.make_room(rt);
-            match ask::hear(line) {
-                Ok(None) => {}
-                Ok(Some(Asked::Read { model, sheet })) => out.answer(keep::read(last.group, model, sheet)),
-                Ok(Some(Asked::Models { sheet })) => out.answer(keep::models(last.group, sheet)),
-                Ok(Some(Asked::Request { kind, number })) => {
-                    last = request::request(last.group, kind, number);
-                    let event = kept::word(last.group.closed, kind, number);
-                    out.answer(keeper.requested(last.code, event));
-                }
-                Ok(Some(Asked::Close)) => {
-                    last = close::close(last.group);
-                    out.answer(keeper.closed(last.code, last.group.closed));
-                }
-                Ok(Some(asked)) => {
-                    let mut group = last.group;
-                    out.answer(keeper.seldom(rt, &mut group, asked));
-                    last.group = group;
-                }
-                Err(reason) => out.answer(Err(Failed::What(reason))),
-            }
-        } else {
+        let Some(line) = input.line() else {
             // what was answered is written out before the program waits
             out.flush(rt);
             if !input.more(reader) {
                 return;
             }
-        }
+            continue;
+        };
+        out.make_room(rt);
+        let answer = match ask::hear(line) {
+            Err(reason) => Err(Failed::What(reason)),
+            Ok(None) => continue,
+            Ok(Some(Asked::Help)) => Ok(Answer::Help),
+            Ok(Some(Asked::Read { model, sheet })) => keep::read(last.group, model, sheet),
+            Ok(Some(Asked::Models { sheet })) => keep::models(last.group, sheet),
+            Ok(Some(Asked::Request { kind, number })) => {
+                last = request::request(last.group, kind, number);
+                let event = kept::word(last.group.closed, kind, number);
+                keeper.requested(last.code, event)
+            }
+            Ok(Some(Asked::Close)) => {
+                last = close::close(last.group);
+                keeper.closed(last.code, last.group.closed)
+            }
+            Ok(Some(Asked::Fresh { group })) => {
+                last = Group::fresh(group);
+                keeper.fresh(last.code, group)
+            }
+            Ok(Some(Asked::Load { file })) => {
+                let mut group = last.group;
+                let answer = keeper.load(rt, &mut group, file);
+                last.group = group;
+                answer
+            }
+            Ok(Some(Asked::Save { file })) => keeper.save(rt, last.group, file),
+            Ok(Some(Asked::Store { file })) => keeper.store(rt, file),
+            Ok(Some(Asked::Deliver { model, room, file })) => keeper.deliver(rt, last.group, model, room, file),
+        };
+        out.answer(answer);
     }
 }
 
