@@ -11,15 +11,31 @@ use std::fmt;
 pub enum Answer {
     Help,
     Ok,
-    Closed { ticks: u32 },
-    Fresh { group: u32 },
+    Closed {
+        ticks: u32,
+    },
+    Fresh {
+        group: u32,
+    },
     Granted,
     Denied,
-    Models { count: u32 },
-    Loaded { group: u32, ticks: u32, records: usize },
-    Store { length: usize },
-    Saved { length: usize },
-    Delivered { length: u32 },
+    Models {
+        count: u32,
+    },
+    Loaded {
+        group: u32,
+        ticks: u32,
+        records: usize,
+    },
+    Store {
+        length: usize,
+    },
+    Saved {
+        length: usize,
+    },
+    Delivered {
+        length: u32,
+    },
 }
 
 impl fmt::Display for Answer {
@@ -32,7 +48,11 @@ impl fmt::Display for Answer {
             Answer::Granted => write!(f, "granted"),
             Answer::Denied => write!(f, "denied"),
             Answer::Models { count } => write!(f, "models {count}"),
-            Answer::Loaded { group, ticks, records } => write!(f, "group {group} ticks {ticks} records {records}"),
+            Answer::Loaded {
+                group,
+                ticks,
+                records,
+            } => write!(f, "group {group} ticks {ticks} records {records}"),
             Answer::Store { length } => write!(f, "store {length}"),
             Answer::Saved { length } => write!(f, "saved {length}"),
             Answer::Delivered { length } => write!(f, "delivered {length}"),
@@ -50,8 +70,18 @@ pub struct Refusal {
 impl Refusal {
     // The place is what the call answers beside the number, whether that is a refusal which names it or not.
     pub fn new(number: u32, place: u32) -> Refusal {
-        let names = matches!(number, rules::BAD_RECORD | rules::NOT_RISING | rules::ILL_FORMED | rules::NOT_IN_STORE | rules::BAD_ENTRY);
-        Refusal { number, place: names.then_some(place) }
+        let names = matches!(
+            number,
+            rules::BAD_RECORD
+                | rules::NOT_RISING
+                | rules::ILL_FORMED
+                | rules::NOT_IN_STORE
+                | rules::BAD_ENTRY
+        );
+        Refusal {
+            number,
+            place: names.then_some(place),
+        }
     }
 }
 
@@ -75,8 +105,7 @@ pub enum Failed<'a> {
 
 const USAGE: &str = "keeper: one command a line on standard input, one answer a line\n";
 
-const HELP: &str = "\
-fresh G             start again with a fresh group G (0..15)
+const HELP: &str = "fresh G             start again with a fresh group G (0..15)
 SJ N   LJ N         model N (0..63) joins: strict, liberal
 SL N   LL N         model N leaves: strict, liberal
 SA N   LA N         sheet N (0..255) is added: strict, liberal

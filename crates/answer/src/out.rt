@@ -1,4 +1,5 @@
 // The lines that the keeper prints gather in memory of a fixed size, which is written out before the program waits for more input.
+// kept: a buffer of its own, since the keeper takes no heap, as the library's `BufWriter` does.
 ghost use Rattle.std.specs.Prelude.{◌≤◌, length};
 
 use super::{Answer, Failed};

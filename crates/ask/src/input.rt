@@ -1,4 +1,5 @@
 // Standard input, a line at a time, in memory of a fixed size.
+// kept: a buffer of its own, since the keeper takes no heap, as the library's `BufReader` does.
 ghost use Rattle.std.specs.Prelude.{◌+◌, ◌≤◌, length, IfSome};
 
 use std::io::Read;
@@ -41,11 +42,10 @@ impl Input {
         ensures { IfSome result (λ n. self.now.at + n ≤ self.now.end) }
     {
         let hand = &self.buffer[self.at..self.end];
-        let found = hand.iter().position(|byte| *byte == b'\n');
-        if found.is_none() && self.over && !hand.is_empty() {
-            return Some(hand.len());
+        match hand.iter().position(|byte| *byte == b'\n') {
+            None if self.over && !hand.is_empty() => Some(hand.len()),
+            found => found,
         }
-        found
     }
 
     // Waits for more of the line at hand, of which only as much is kept as shows that it is too long; false at the end of the input.

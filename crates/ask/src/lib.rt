@@ -24,15 +24,35 @@ pub const BUFFER: usize = 1114112;
 #[derive(Clone, Copy)]
 pub enum Asked<'a> {
     Help,
-    Read { model: u32, sheet: u32 },
-    Models { sheet: u32 },
-    Request { kind: u32, number: u32 },
+    Read {
+        model: u32,
+        sheet: u32,
+    },
+    Models {
+        sheet: u32,
+    },
+    Request {
+        kind: u32,
+        number: u32,
+    },
     Close,
-    Fresh { group: u32 },
-    Load { file: &'a [u8] },
-    Save { file: &'a [u8] },
-    Store { file: &'a [u8] },
-    Deliver { model: u32, room: usize, file: &'a [u8] },
+    Fresh {
+        group: u32,
+    },
+    Load {
+        file: &'a [u8],
+    },
+    Save {
+        file: &'a [u8],
+    },
+    Store {
+        file: &'a [u8],
+    },
+    Deliver {
+        model: u32,
+        room: usize,
+        file: &'a [u8],
+    },
 }
 
 // Whether the words behind a command's name are as many as it takes.
@@ -48,7 +68,10 @@ fn exactly(words: &[&[u8]], takes: usize) -> Result<(), Reason>
 
 fn request<'a>(kind: u32, words: &[&'a [u8]]) -> Result<Asked<'a>, Reason> {
     exactly(words, 1)?;
-    Ok(Asked::Request { kind, number: decimal(words[0])? })
+    Ok(Asked::Request {
+        kind,
+        number: decimal(words[0])?,
+    })
 }
 
 // The length of a delivery's buffer.
@@ -102,7 +125,10 @@ fn command<'a>(name: &[u8], words: &[&'a [u8]]) -> Result<Asked<'a>, Reason> {
         b"LR" => request(rules::LR, words),
         b"request" => {
             exactly(words, 2)?;
-            Ok(Asked::Request { kind: decimal(words[0])?, number: decimal(words[1])? })
+            Ok(Asked::Request {
+                kind: decimal(words[0])?,
+                number: decimal(words[1])?,
+            })
         }
         b"close" => {
             exactly(words, 0)?;
@@ -110,32 +136,49 @@ fn command<'a>(name: &[u8], words: &[&'a [u8]]) -> Result<Asked<'a>, Reason> {
         }
         b"read" => {
             exactly(words, 2)?;
-            Ok(Asked::Read { model: decimal(words[0])?, sheet: decimal(words[1])? })
+            Ok(Asked::Read {
+                model: decimal(words[0])?,
+                sheet: decimal(words[1])?,
+            })
         }
         b"models" => {
             exactly(words, 1)?;
-            Ok(Asked::Models { sheet: decimal(words[0])? })
+            Ok(Asked::Models {
+                sheet: decimal(words[0])?,
+            })
         }
         b"fresh" => {
             exactly(words, 1)?;
-            Ok(Asked::Fresh { group: decimal(words[0])? })
+            Ok(Asked::Fresh {
+                group: decimal(words[0])?,
+            })
         }
         b"load" => {
             exactly(words, 1)?;
-            Ok(Asked::Load { file: file(words[0])? })
+            Ok(Asked::Load {
+                file: file(words[0])?,
+            })
         }
         b"save" => {
             exactly(words, 1)?;
-            Ok(Asked::Save { file: file(words[0])? })
+            Ok(Asked::Save {
+                file: file(words[0])?,
+            })
         }
         b"store" => {
             exactly(words, 1)?;
-            Ok(Asked::Store { file: file(words[0])? })
+            Ok(Asked::Store {
+                file: file(words[0])?,
+            })
         }
         b"deliver" => {
             exactly(words, 3)?;
             // a number that is none comes before a buffer that is too large
-            Ok(Asked::Deliver { model: decimal(words[0])?, room: room(words[1])?, file: file(words[2])? })
+            Ok(Asked::Deliver {
+                model: decimal(words[0])?,
+                room: room(words[1])?,
+                file: file(words[2])?,
+            })
         }
         b"help" => {
             exactly(words, 0)?;

@@ -11,7 +11,9 @@ pub fn decimal(word: &[u8]) -> Result<u32, Reason> {
         if !byte.is_ascii_digit() {
             return Err(Reason::NotDecimal);
         }
-        value = value.saturating_mul(10).saturating_add(u64::from(*byte - b'0'));
+        value = value
+            .saturating_mul(10)
+            .saturating_add(u64::from(*byte - b'0'));
     }
     u32::try_from(value).map_err(|_| Reason::TooLarge)
 }

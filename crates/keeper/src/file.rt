@@ -10,6 +10,7 @@ fn text(name: &[u8]) -> io::Result<&str> {
 }
 
 // Reads until the bytes are full or the input ends, and answers how many came.
+// kept: the library fills a slice whole (`read_exact`) or takes the heap (`read_to_end`).
 fn read_full<R: Read>(reader: &mut R, bytes: &mut [u8]) -> io::Result<usize>
     ensures { IfOk result (λ n. n ≤ length bytes.new) }
 {
