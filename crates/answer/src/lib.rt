@@ -68,7 +68,7 @@ pub struct Refusal {
 }
 
 impl Refusal {
-    // The place is what the call answers beside the number, whether that is a refusal which names it or not.
+    // The place is what stands beside the number in a call's answer; some refusals name it.
     pub fn new(number: u32, place: u32) -> Refusal {
         let names = matches!(
             number,

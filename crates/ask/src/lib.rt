@@ -12,7 +12,7 @@ use std::cmp::Ordering;
 use word::{decimal, file};
 
 // The longest line.
-pub const LINE: usize = 255;
+const LINE: usize = 255;
 
 // The words of the longest command, and one more, which shows that there are too many.
 const WORDS: usize = 5;
@@ -20,7 +20,7 @@ const WORDS: usize = 5;
 // The longest delivery buffer.
 pub const BUFFER: usize = 1114112;
 
-// What a line asks for. A request by its letters has its kind as the number that it is.
+// A command, with the numbers and the file's name that it has. A request by its letters has its kind as a number, too.
 #[derive(Clone, Copy)]
 pub enum Asked<'a> {
     Help,
@@ -100,7 +100,7 @@ fn words(line: &[u8]) -> ([&[u8]; WORDS], usize)
     (words, WORDS)
 }
 
-// What a line asks for; nothing, where it has no words.
+// What a line asks for: nothing, where it has no words.
 pub fn hear(line: &[u8]) -> Result<Option<Asked<'_>>, Reason> {
     if line.len() > LINE {
         return Err(Reason::LongLine);
