@@ -101,15 +101,13 @@ fn words(line: &[u8]) -> ([&[u8]; WORDS], usize)
 }
 
 // What a line asks for: nothing, where it has no words.
-pub fn hear(line: &[u8]) -> Result<Option<Asked<'_>>, Reason> {
+pub fn hear(line: &[u8]) -> Option<Result<Asked<'_>, Reason>> {
     if line.len() > LINE {
-        return Err(Reason::LongLine);
+        return Some(Err(Reason::LongLine));
     }
     let (words, count) = words(line);
-    let [name, words @ ..] = &words[..count] else {
-        return Ok(None);
-    };
-    command(name, words).map(Some)
+    let (name, words) = words[..count].split_first()?;
+    Some(command(name, words))
 }
 
 // What a command asks for with the words behind its name.

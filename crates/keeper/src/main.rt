@@ -31,34 +31,36 @@ fn converse<H: Files + Print, R: Read>(rt: &H, reader: &mut R, out: &mut Out) {
             continue;
         };
         out.make_room(rt);
-        let answer = match ask::hear(line) {
+        let Some(asked) = ask::hear(line) else {
+            continue;
+        };
+        let answer = match asked {
             Err(reason) => Err(Failed::What(reason)),
-            Ok(None) => continue,
-            Ok(Some(Asked::Help)) => Ok(Answer::Help),
-            Ok(Some(Asked::Read { model, sheet })) => keep::read(last.group, model, sheet),
-            Ok(Some(Asked::Models { sheet })) => keep::models(last.group, sheet),
-            Ok(Some(Asked::Request { kind, number })) => {
+            Ok(Asked::Help) => Ok(Answer::Help),
+            Ok(Asked::Read { model, sheet }) => keep::read(last.group, model, sheet),
+            Ok(Asked::Models { sheet }) => keep::models(last.group, sheet),
+            Ok(Asked::Request { kind, number }) => {
                 last = request::request(last.group, kind, number);
                 let event = kept::word(last.group.closed, kind, number);
                 keeper.requested(last.code, event)
             }
-            Ok(Some(Asked::Close)) => {
+            Ok(Asked::Close) => {
                 last = close::close(last.group);
                 keeper.closed(last.code, last.group.closed)
             }
-            Ok(Some(Asked::Fresh { group })) => {
+            Ok(Asked::Fresh { group }) => {
                 last = Group::fresh(group);
                 keeper.fresh(last.code, group)
             }
-            Ok(Some(Asked::Load { file })) => {
+            Ok(Asked::Load { file }) => {
                 let mut group = last.group;
                 let answer = keeper.load(rt, &mut group, file);
                 last.group = group;
                 answer
             }
-            Ok(Some(Asked::Save { file })) => keeper.save(rt, last.group, file),
-            Ok(Some(Asked::Store { file })) => keeper.store(rt, file),
-            Ok(Some(Asked::Deliver { model, room, file })) => keeper.deliver(
+            Ok(Asked::Save { file }) => keeper.save(rt, last.group, file),
+            Ok(Asked::Store { file }) => keeper.store(rt, file),
+            Ok(Asked::Deliver { model, room, file }) => keeper.deliver(
                 rt, last.group, model, room, file,
             ),
         };
