@@ -88,16 +88,15 @@ fn words(line: &[u8]) -> ([&[u8]; WORDS], usize)
     ensures { result.1 ≤ 5 }
 {
     let mut words = [&line[..0]; WORDS];
-    let mut found = line
+    let mut count = 0;
+    let found = line
         .split(|byte| *byte == b' ')
         .filter(|word| !word.is_empty());
-    for k in 0..WORDS {
-        let Some(word) = found.next() else {
-            return (words, k);
-        };
+    for (k, word) in found.take(WORDS).enumerate() {
         words[k] = word;
+        count = k + 1;
     }
-    (words, WORDS)
+    (words, count)
 }
 
 // What a line asks for: nothing, where it has no words.
