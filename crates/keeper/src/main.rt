@@ -15,8 +15,8 @@ use std::io::Read;
 use std::rt::Files;
 
 // Answers every line up to the end of the input.
-// kept: the group stays in the last call's answer, and that in this one place. It goes by value, 2,288 bytes, and every other place is a copy more for each request: 1,000,000 commands take 107 ms so, 147 ms with the group in `Keeper` and 135 ms where `load` is lent it from here.
 // A proved loop has to end, and nothing says that an input does: the loop has a number of turns that no run uses up.
+// kept: the group stays in the last call's answer, and that in this one place. It goes by value, 2,288 bytes, and every other place is a copy more for each request: 1,000,000 commands take 107 ms so, 147 ms with the group in `Keeper` and 135 ms where `load` is lent it from here.
 fn converse<H: Files + Print, R: Read>(rt: &H, reader: &mut R, out: &mut Out) {
     let mut input = Input::new();
     let mut keeper = Keeper::new();
