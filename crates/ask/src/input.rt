@@ -1,79 +1,65 @@
-// Standard input, taken a buffer at a time.
-ghost use Rattle.std.specs.Prelude.{◌≤◌, length};
+// Standard input, a line at a time, in memory of a fixed size.
+// kept: a buffer of its own, since the keeper takes no heap, as the library's `BufReader` does.
+ghost use Rattle.std.specs.Prelude.{◌+◌, ◌≤◌, length, IfSome};
 
 use std::io::Read;
 
-// The bytes of the buffer.
-pub const BUFFER: usize = 65536;
-
-pub type Buffer = [u8; BUFFER];
+// The bytes that are read at most at a time.
+const ROOM: usize = 65536;
 
 // The bytes at hand, from `at` to `end` of the buffer, and whether they are the last.
-#[derive(Clone, Copy)]
+#[derive(Drop)]
 pub struct Input {
-    pub at: usize,
-    pub end: usize,
-    pub over: bool,
+    buffer: [u8; ROOM],
+    at: usize,
+    end: usize,
+    over: bool,
+    ghost in_order: { at ≤ end },
+    ghost at_hand: { end ≤ length buffer },
 }
 
-// The input before any of it is read.
-pub fn none() -> Input {
-    Input {
-        at: 0,
-        end: 0,
-        over: false,
-    }
-}
-
-// What is at hand behind a line and its line feed.
-pub fn behind(input: Input, length: usize) -> Input {
-    let at = input.at;
-    let end = input.end;
-    if at >= end {
-        return input;
-    }
-    if length >= end - at {
-        return Input {
-            at: end,
-            end,
-            over: input.over,
-        };
-    }
-    Input {
-        at: at + length + 1,
-        end,
-        over: input.over,
-    }
-}
-
-// Moves the line at hand to the front of the buffer and answers its length. Of a line that is too long only as much is kept as shows it.
-fn to_front(buffer: &mut [u8], at: usize, end: usize) -> usize
-    ensures { result ≤ length buffer.new }
-{
-    let mut n: usize = 0;
-    let mut from = at;
-    while (n < super::line::LINE) & (from < end) {
-        if from >= buffer.len() {
-            return n;
+impl Input {
+    // The input before any of it is read.
+    pub fn new() -> Input {
+        Input {
+            buffer: [0; ROOM],
+            at: 0,
+            end: 0,
+            over: false,
         }
-        buffer[n] = buffer[from];
-        n += 1;
-        from += 1;
     }
-    n
-}
 
-// Waits for more input behind the line at hand; none is the end of it, and the end stays the end.
-pub fn more<R: Read>(reader: &mut R, buffer: &mut [u8], input: Input) -> Input {
-    if input.over {
-        return input;
+    // The next line, where all of it is at hand; what is left when the input is over is the last one.
+    pub fn line(&mut self) -> Option<&[u8]> {
+        let from = self.at;
+        let to = from + self.length()?;
+        self.at = self.end.min(to + 1);
+        Some(&self.buffer[from..to])
     }
-    let had = to_front(&mut *buffer, input.at, input.end);
-    // a read that fails counts as the end
-    let came = reader.read(&mut buffer[had..]).unwrap_or(0);
-    Input {
-        at: 0,
-        end: had + came,
-        over: came == 0,
+
+    // That line's length.
+    fn length(&self) -> Option<usize>
+        ensures { IfSome result (λ n. self.now.at + n ≤ self.now.end) }
+    {
+        let hand = &self.buffer[self.at..self.end];
+        match hand.iter().position(|byte| *byte == b'\n') {
+            None if self.over && !hand.is_empty() => Some(hand.len()),
+            found => found,
+        }
+    }
+
+    // Waits for more of the line at hand, of which only as much is kept as shows that it is too long; false at the end of the input.
+    pub fn more<R: Read>(&mut self, reader: &mut R) -> bool {
+        if self.over {
+            return false;
+        }
+        let had = (self.end - self.at).min(super::LINE + 1);
+        self.buffer.copy_within(self.at..self.at + had, 0);
+        // a read that fails counts as the end
+        let came = reader.read(&mut self.buffer[had..]).unwrap_or(0);
+        self.at = 0;
+        self.end = had + came;
+        self.over = came == 0;
+        true
     }
 }

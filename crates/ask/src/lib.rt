@@ -1,196 +1,186 @@
 // What the next line of standard input asks for: a command with its numbers, or the reason why it is none.
 #![tactic(auto)]
 
-mod command;
+ghost use Rattle.std.specs.Prelude.{◌≡◌, ◌≤◌, length, OnOk};
+
 pub mod input;
-pub mod line;
+pub mod reason;
+mod word;
 
-use command::Command;
-use input::{Buffer, Input};
-use line::{Line, Number};
+use reason::Reason;
+use std::cmp::Ordering;
+use word::{decimal, file};
 
-// A command and its numbers; those of a request are its kind and its carrier. What can't be taken has the reason as its first number.
-#[derive(Clone, Copy)]
-pub struct Asked {
-    pub name: u32,
-    pub a: u32,
-    pub b: u32,
-}
+// The longest line.
+const LINE: usize = 255;
 
-// What leaves everything as it is: no line that is whole, so that more input is waited for; a line without words; one that can't be taken; and the questions.
-pub const MORE: u32 = 0;
+// The words of the longest command, and one more, which shows that there are too many.
+const WORDS: usize = 5;
 
-pub const NOTHING: u32 = 1;
-
-pub const WHAT: u32 = 2;
-
-pub const HELP: u32 = 3;
-
-pub const READ: u32 = 4;
-
-pub const MODELS: u32 = 5;
-
-// The commands on the open tick.
-pub const REQUEST: u32 = 6;
-
-pub const CLOSE: u32 = 7;
-
-// Those that take another group or another store, and those that write a file.
-pub const FRESH: u32 = 8;
-
-pub const LOAD: u32 = 9;
-
-pub const STORE: u32 = 10;
-
-pub const SAVE: u32 = 11;
-
-pub const DELIVER: u32 = 12;
-
-// The end of the input.
-pub const END: u32 = 13;
-
-// The reasons why a line can't be taken; 0 where there is none.
-pub const LONG_LINE: u32 = 1;
-
-pub const UNKNOWN: u32 = 2;
-
-pub const MISSING: u32 = 3;
-
-pub const EXTRA: u32 = 4;
-
-pub const NOT_DECIMAL: u32 = 5;
-
-pub const TOO_LARGE: u32 = 6;
-
-pub const LARGE_BUFFER: u32 = 7;
-
-pub const LONG_NAME: u32 = 8;
-
-// The longest delivery buffer, and the longest file name.
+// The longest delivery buffer.
 pub const BUFFER: usize = 1114112;
 
-const NAME: usize = 200;
-
-// What has no numbers.
-pub fn bare(name: u32) -> Asked {
-    Asked { name, a: 0, b: 0 }
-}
-
-fn what(reason: u32) -> Asked {
-    Asked {
-        name: WHAT,
-        a: reason,
-        b: 0,
-    }
-}
-
-// Word k of a line as a number; where a command has no such word, the number that it has instead.
-fn number(bytes: &[u8], line: Line, k: usize, instead: u32) -> Number {
-    if k == 0 {
-        return Number {
-            reason: 0,
-            value: instead,
-        };
-    }
-    line::decimal(line::word(bytes, line, k))
-}
-
-// A command with its two numbers, of which the first that can't be taken is the reason.
-fn numbered(name: u32, a: Number, b: Number) -> Asked {
-    if a.reason != 0 {
-        return what(a.reason);
-    }
-    if b.reason != 0 {
-        return what(b.reason);
-    }
-    if (name == DELIVER) & (b.value as usize > BUFFER) {
-        return what(LARGE_BUFFER);
-    }
-    Asked {
-        name,
-        a: a.value,
-        b: b.value,
-    }
-}
-
-// The file name of a command that has one is its last word.
-fn last(bytes: &[u8], line: Line) -> &[u8] {
-    let count = line.count;
-    if count == 0 {
-        return &bytes[0..0];
-    }
-    line::word(bytes, line, count - 1)
-}
-
-pub fn file(bytes: &[u8]) -> &[u8] {
-    last(bytes, line::first(bytes))
-}
-
-// What a command asks for whose file name has so many bytes.
-fn with_file(asked: Asked, length: usize) -> Asked {
-    if (asked.name != WHAT) & (length > NAME) {
-        return what(LONG_NAME);
-    }
-    asked
-}
-
-// What a command asks for whose line has as many words as it takes.
-fn of_command(command: Command, bytes: &[u8], line: Line) -> Asked {
-    let a = number(bytes, line, command.a, command.kind);
-    let b = number(bytes, line, command.b, 0);
-    let asked = numbered(command.name, a, b);
-    if !command.file {
-        return asked;
-    }
-    with_file(asked, last(bytes, line).len())
-}
-
-// What the line at the front of the bytes asks for.
-fn of_line(bytes: &[u8], line: Line) -> Asked {
-    if line.length >= line::LINE {
-        return what(LONG_LINE);
-    }
-    if line.count == 0 {
-        return bare(NOTHING);
-    }
-    let command = command::named(line::word(bytes, line, 0));
-    let reason = command::misfit(command, line.count);
-    if reason != 0 {
-        return what(reason);
-    }
-    of_command(command, bytes, line)
-}
-
-// What is heard: the input behind a line, where that line starts, and what it asks for.
+// A command, with the numbers and the file's name that it has. A request by its letters has its kind as a number, too.
 #[derive(Clone, Copy)]
-pub struct Heard {
-    pub input: Input,
-    pub from: usize,
-    pub asked: Asked,
+pub enum Asked<'a> {
+    Help,
+    Read {
+        model: u32,
+        sheet: u32,
+    },
+    Models {
+        sheet: u32,
+    },
+    Request {
+        kind: u32,
+        number: u32,
+    },
+    Close,
+    Fresh {
+        group: u32,
+    },
+    Load {
+        file: &'a [u8],
+    },
+    Save {
+        file: &'a [u8],
+    },
+    Store {
+        file: &'a [u8],
+    },
+    Deliver {
+        model: u32,
+        room: usize,
+        file: &'a [u8],
+    },
 }
 
-// Hears the line at hand; what is left when the input is over is the last line.
-pub fn hear(input: Input, buffer: &Buffer) -> Heard {
-    let from = input.at;
-    let hand = line::part(buffer, from, input.end);
-    let line = line::first(hand);
-    if line.whole | (input.over & (hand.len() > 0)) {
-        return Heard {
-            input: input::behind(input, line.length),
-            from,
-            asked: of_line(hand, line),
-        };
+// Whether the words behind a command's name are as many as it takes.
+fn exactly(words: &[&[u8]], takes: usize) -> Result<(), Reason>
+    ensures { OnOk result (length words.now ≡ takes) }
+{
+    match words.len().cmp(&takes) {
+        Ordering::Less => Err(Reason::Missing),
+        Ordering::Equal => Ok(()),
+        Ordering::Greater => Err(Reason::Extra),
     }
-    if input.over {
-        return Heard {
-            input,
-            from,
-            asked: bare(END),
-        };
+}
+
+fn request<'a>(kind: u32, words: &[&'a [u8]]) -> Result<Asked<'a>, Reason> {
+    exactly(words, 1)?;
+    Ok(Asked::Request {
+        kind,
+        number: decimal(words[0])?,
+    })
+}
+
+// The length of a delivery's buffer.
+fn room(word: &[u8]) -> Result<usize, Reason> {
+    let room = decimal(word)? as usize;
+    if room > BUFFER {
+        return Err(Reason::LargeBuffer);
     }
-    Heard {
-        input,
-        from,
-        asked: bare(MORE),
+    Ok(room)
+}
+
+// The words at the front of a line, and how many they are.
+fn words(line: &[u8]) -> ([&[u8]; WORDS], usize)
+    ensures { result.1 ≤ 5 }
+{
+    let mut words = [&line[..0]; WORDS];
+    let mut count = 0;
+    let found = line
+        .split(|byte| *byte == b' ')
+        .filter(|word| !word.is_empty());
+    for (k, word) in found.take(WORDS).enumerate() {
+        words[k] = word;
+        count = k + 1;
+    }
+    (words, count)
+}
+
+// What a line asks for: nothing, where it has no words.
+pub fn hear(line: &[u8]) -> Option<Result<Asked<'_>, Reason>> {
+    if line.len() > LINE {
+        return Some(Err(Reason::LongLine));
+    }
+    let (words, count) = words(line);
+    let (name, words) = words[..count].split_first()?;
+    Some(command(name, words))
+}
+
+// What a command asks for with the words behind its name.
+fn command<'a>(name: &[u8], words: &[&'a [u8]]) -> Result<Asked<'a>, Reason> {
+    match name {
+        b"SJ" => request(rules::SJ, words),
+        b"LJ" => request(rules::LJ, words),
+        b"SL" => request(rules::SL, words),
+        b"LL" => request(rules::LL, words),
+        b"SA" => request(rules::SA, words),
+        b"LA" => request(rules::LA, words),
+        b"SR" => request(rules::SR, words),
+        b"LR" => request(rules::LR, words),
+        b"request" => {
+            exactly(words, 2)?;
+            Ok(Asked::Request {
+                kind: decimal(words[0])?,
+                number: decimal(words[1])?,
+            })
+        }
+        b"close" => {
+            exactly(words, 0)?;
+            Ok(Asked::Close)
+        }
+        b"read" => {
+            exactly(words, 2)?;
+            Ok(Asked::Read {
+                model: decimal(words[0])?,
+                sheet: decimal(words[1])?,
+            })
+        }
+        b"models" => {
+            exactly(words, 1)?;
+            Ok(Asked::Models {
+                sheet: decimal(words[0])?,
+            })
+        }
+        b"fresh" => {
+            exactly(words, 1)?;
+            Ok(Asked::Fresh {
+                group: decimal(words[0])?,
+            })
+        }
+        b"load" => {
+            exactly(words, 1)?;
+            Ok(Asked::Load {
+                file: file(words[0])?,
+            })
+        }
+        b"save" => {
+            exactly(words, 1)?;
+            Ok(Asked::Save {
+                file: file(words[0])?,
+            })
+        }
+        b"store" => {
+            exactly(words, 1)?;
+            Ok(Asked::Store {
+                file: file(words[0])?,
+            })
+        }
+        b"deliver" => {
+            exactly(words, 3)?;
+            // a number that is none comes before a buffer that is too large
+            Ok(Asked::Deliver {
+                model: decimal(words[0])?,
+                room: room(words[1])?,
+                file: file(words[2])?,
+            })
+        }
+        b"help" => {
+            exactly(words, 0)?;
+            Ok(Asked::Help)
+        }
+        _ => Err(Reason::Unknown),
     }
 }
