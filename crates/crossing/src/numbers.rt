@@ -2,9 +2,10 @@
 ghost use Rattle.std.specs.Prelude.{◌≡◌};
 ghost use Rattle.crossing.specs.Delivered.{delivery_numbers};
 ghost use Rattle.crossing.specs.Read.{read_numbers};
+ghost use Rattle.group.specs.Read.{read_told};
 
 use delivery::Delivery;
-use group::ReadAnswer;
+use rules::refusal::Refusal;
 
 // A refusal's number, or 0 with 1 for granted and 0 for denied.
 #[repr(C)]
@@ -14,19 +15,18 @@ pub struct Read {
     pub granted: u32,
 }
 
-pub fn of_read(answer: ReadAnswer) -> Read
-    ensures { result ≡ read_numbers answer }
+pub fn of_read(answer: Result<bool, Refusal>) -> Read
+    ensures { result ≡ read_numbers (read_told answer) }
 {
     match answer {
-        ReadAnswer::Granted => Read {
+        Ok(granted) => Read {
             code: 0,
-            granted: 1,
+            granted: u32::from(granted),
         },
-        ReadAnswer::Denied => Read {
-            code: 0,
+        Err(refusal) => Read {
+            code: refusal.number(),
             granted: 0,
         },
-        ReadAnswer::Refused(code) => Read { code, granted: 0 },
     }
 }
 

@@ -39,21 +39,22 @@ pub fn ferrulebee_read(group: Group, model: u32, sheet: u32) -> Read
 pub fn ferrulebee_models(group: Group, sheet: u32) -> CountAnswer
     ensures { result ≡ count_answer group sheet }
 {
-    group.models(sheet)
+    group.models(sheet).into()
 }
 
 // A request on a group lent and marked where it stands; a refusal leaves it as it was.
 pub fn ferrulebee_request_at(g: &mut Group, kind: u32, number: u32) -> u32
     ensures { (result ≡ (request_answer g.old kind number).code) × (g.new ≡ (request_answer g.old kind number).group) }
 {
-    let asked = request::request(*g, kind, number);
-    *g = asked.group;
-    asked.code
+    match request::request_at(g, kind, number) {
+        Ok(()) => 0,
+        Err(refusal) => refusal.number(),
+    }
 }
 
 // A station's groups side by side: the mask of the positions that grant.
 pub fn ferrulebee_mask(gs: &[Group], model: u32, sheet: u32) -> MaskAnswer
     ensures { result ≡ mask_answer gs.now model sheet }
 {
-    station::mask(gs, model, sheet)
+    station::mask(gs, model, sheet).into()
 }
