@@ -4,6 +4,7 @@
 use formula::{Moment, Verdict};
 use report::page::{Out, Page};
 use report::{Book, Words, page};
+use rules::refusal::Refusal;
 use std::io::Read;
 use strip::Side;
 
@@ -30,9 +31,9 @@ fn pair<P: Print>(
     page: Page,
     model: u32,
     sheet: u32,
-    verdict: Verdict,
+    verdict: Result<Verdict, Refusal>,
 ) -> Page {
-    let Verdict::Granted(moment) = verdict else {
+    let Ok(Verdict::Granted(moment)) = verdict else {
         return page;
     };
     match moment {

@@ -89,8 +89,8 @@ fn of_model<P: Print>(
     for sheet in asked.sheets..within(asked.sheets_end, rules::SHEETS) {
         let s = sheet as usize;
         let other = report::part(strips, ends[s], ends[s + 1]);
-        let told = span::spans(strip, other, now, &mut *list);
-        page = lines(rt, &mut *out, page, model, sheet, &*list, told.count);
+        let count = span::spans(strip, other, now, &mut *list).unwrap_or(0);
+        page = lines(rt, &mut *out, page, model, sheet, &*list, count);
     }
     page
 }
