@@ -5,13 +5,15 @@ use mathlib.Core.Bool.{Bool, true, false, cond}
 use mathlib.Core.List.{List}
 use Prim.Native.Nat.{ℕ, ◌+◌, ◌-◌}
 use lib.Dec.{eqb}
+use Rattle.std.specs.Prelude.{Result, Ok, Err}
+use Rattle.rules.specs.declared.refusal.Refusal.{Refusal}
 use lib.ListN.{length, take, drop, take-append-drop}
 use lib.Seq.{take-append_seam}
 use denote.Ref.{Bor}
 use Rattle.base.specs.Part.{word_at}
 use Rattle.base.proofs.Part.{tail}
 use Rattle.formula.specs.declared.Verdict.{Verdict}
-use Rattle.formula.specs.declared.Verdict.TheVariants.{Granted, Denied, Refused}
+use Rattle.formula.specs.declared.Verdict.TheVariants.{Granted, Denied}
 use Rattle.formula.specs.declared.Moment.TheVariants.{Add, Join}
 use Rattle.evidence.specs.Evidence.{place_of, evidence_of, start_of}
 use Rattle.tick.specs.Tick.{rising, place_from, tick_part}
@@ -27,17 +29,17 @@ words_of p l = take p.count (drop p.first l)
 abbrev pub strip_in : Part → {A : Type 0} → A → A → A
 strip_in p m s = cond (eqb p.list sheet_strip) s m
 
-pub evidence_words : (v : Verdict) (m s : List ℕ) → words_of (evidence_part v m s) (strip_in (evidence_part v m s) m s) ≡ evidence_of v m s
-evidence_words (Granted (Add t)) m s = tail s (place_of s t)
-evidence_words (Granted (Join t)) m s = tail m (place_of m t)
-evidence_words (Denied cause) m s = refl
-evidence_words (Refused refusal place) m s = refl
+pub evidence_words : (v : Result Verdict Refusal) (m s : List ℕ) → words_of (evidence_part v m s) (strip_in (evidence_part v m s) m s) ≡ evidence_of v m s
+evidence_words (Ok (Granted (Add t))) m s = tail s (place_of s t)
+evidence_words (Ok (Granted (Join t))) m s = tail m (place_of m t)
+evidence_words (Ok (Denied cause)) m s = refl
+evidence_words (Err refusal) m s = refl
 
-pub evidence_start : (v : Verdict) (m s : Bor (List ℕ)) → word_at (strip_in (evidence_part v m.now s.now) m s) (evidence_part v m.now s.now).first ≡ start_of v m s
-evidence_start (Granted (Add t)) m s = refl
-evidence_start (Granted (Join t)) m s = refl
-evidence_start (Denied cause) m s = refl
-evidence_start (Refused refusal place) m s = refl
+pub evidence_start : (v : Result Verdict Refusal) (m s : Bor (List ℕ)) → word_at (strip_in (evidence_part v m.now s.now) m s) (evidence_part v m.now s.now).first ≡ start_of v m s
+evidence_start (Ok (Granted (Add t))) m s = refl
+evidence_start (Ok (Granted (Join t))) m s = refl
+evidence_start (Ok (Denied cause)) m s = refl
+evidence_start (Err refusal) m s = refl
 
 -- the front of a list, taken again by its own length
 front : (n : ℕ) (l p : List ℕ) → take n l ≡ p → take (length p) l ≡ p

@@ -21,22 +21,20 @@ pub fn evidence<'a>(m: &'a [u32], s: &'a [u32], now: u32) -> Part
 {
     let part = evidence::evidence(m, s, now);
     let count = part.len();
-    let Verdict::Granted(moment) = judge::judge(m, s, now) else {
-        return Part {
-            list: 0,
-            first: 0,
-            count,
-        };
-    };
-    match moment {
-        Moment::Add(_) => Part {
+    match judge::judge(m, s, now) {
+        Ok(Verdict::Granted(Moment::Add(_))) => Part {
             list: 1,
             first: s.len() - count,
             count,
         },
-        Moment::Join(_) => Part {
+        Ok(Verdict::Granted(Moment::Join(_))) => Part {
             list: 0,
             first: m.len() - count,
+            count,
+        },
+        _ => Part {
+            list: 0,
+            first: 0,
             count,
         },
     }

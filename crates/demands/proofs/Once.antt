@@ -6,6 +6,8 @@ use mathlib.Core.Bool.{Bool, cond}
 use Prim.Native.Nat.{ℕ, ◌≤◌}
 use lib.ListN.{length, replicate}
 use denote.Ref.{Bor}
+use Rattle.std.specs.Prelude.{Result, Ok, Err, ⊤}
+use Rattle.rules.specs.declared.refusal.Refusal.{Refusal}
 use Rattle.base.specs.HowMany.{how_many}
 use Rattle.base.specs.Part.{word_at}
 use Rattle.bits.specs.Bit.{width, bit, next_bit, after_word}
@@ -41,12 +43,10 @@ use Rattle.group.specs.declared.Answer.{Answer}
 use Rattle.group.specs.declared.CountAnswer.{CountAnswer}
 use Rattle.group.specs.declared.Group.{Group}
 use Rattle.close.specs.declared.Settled.{Settled}
-use Rattle.judge.specs.Checked as check
 use Rattle.evidence.specs.Evidence.{evidence_of, start_of}
 use Rattle.judge.specs.Judge.{checked, judged_by, Judges}
 use Rattle.standing.specs.Scan.{step_of, holding, told_by}
 use Rattle.stepping.specs.Next.{head_of}
-use Rattle.judge.specs.declared.check.Checked.{Checked}
 use Rattle.stepping.specs.declared.Head.{Head}
 use Rattle.standing.specs.declared.Seen.{Seen}
 use Rattle.standing.specs.declared.Standing.{Standing}
@@ -55,7 +55,8 @@ use Rattle.kept.specs.Kept.{room, open_word, records_of, started_with, requested
 use Rattle.kept.specs.declared.Kept.{Kept}
 use Rattle.pass.specs.Pass.{begun}
 use Rattle.pass.specs.declared.Pass.{Pass}
-use Rattle.span.specs.Answer.{spans_answer, list_after}
+use Rattle.span.specs.Answer.{counted, spans_answer, list_after}
+use Rattle.span.proofs.Once.{counted_once}
 use Rattle.span.specs.declared.SpansAnswer.{SpansAnswer}
 use Rattle.station.specs.Mask.{mask_answer}
 use Rattle.station.specs.declared.MaskAnswer.{MaskAnswer}
@@ -93,21 +94,26 @@ pub record PromisesDetermine : Type 0 where
   pub mask : (gs : List Group) (m s : ℕ) → Once MaskAnswer (λ r. r ≡ mask_answer gs m s)
   -- the judge, on words and from C, and its evidence: the same words at the same place
   -- judge::judge
-  pub judge : (m s : List ℕ) (now : ℕ) → Once Verdict (Judges m s now)
+  pub judge : (m s : List ℕ) (now : ℕ) → Once (Result Verdict Refusal) (Judges m s now)
   -- judge
   pub judge_of_bytes : (m s : List ℕ) (now : ℕ) → Once ℕ (λ r. r ≡ packed (judged_from m s now))
   -- loader::judged
-  pub judged : (m s : List ℕ) (now : ℕ) → Once Verdict (λ r. r ≡ judged_from m s now)
+  pub judged : (m s : List ℕ) (now : ℕ) → Once (Result Verdict Refusal) (λ r. r ≡ judged_from m s now)
   -- loader::pack
-  pub pack : (v : Verdict) → Once ℕ (λ r. r ≡ packed v)
+  pub pack : (answer : Result Verdict Refusal) → Once ℕ (λ r. r ≡ packed answer)
   -- evidence::evidence
   pub evidence : (m s : Bor (List ℕ)) (now : ℕ)
       → Once (List ℕ × (ℕ × ℕ)) (λ r. (r.0 ≡ evidence_of (judged_by m.now s.now now) m.now s.now) × (r.1 ≡ start_of (judged_by m.now s.now now) m s))
   -- the check of two strips, and the spans with their list
   -- judge::check::check
-  pub check : (m s : List ℕ) (now : ℕ) → Once Checked (λ r. r ≡ checked m s now check.refused check.accepted)
-  -- span::spans, ferrulebee_spans
+  pub check : (m s : List ℕ) (now : ℕ) → Once (Result ⊤ Refusal) (λ r. r ≡ checked m s now Err (Ok tt))
+  -- span::spans
   pub spans : (m s : List ℕ) (now : ℕ) (list : List ℕ)
+      → Once (Result ℕ Refusal × List ℕ) (λ r. (counted r.0 ≡ spans_answer m s now (length list)) × (r.1 ≡ list_after m s now list))
+  -- SpansAnswer::from
+  pub spans_counted : (answer : Result ℕ Refusal) → Once SpansAnswer (λ r. r ≡ counted answer)
+  -- ferrulebee_spans
+  pub spans_numbers : (m s : List ℕ) (now : ℕ) (list : List ℕ)
       → Once (SpansAnswer × List ℕ) (λ r. (r.0 ≡ spans_answer m s now (length list)) × (r.1 ≡ list_after m s now list))
   -- when a store is taken; a delivery, with its buffer: by grants, and by a group's
   -- store::good_store
@@ -206,9 +212,9 @@ pub record PromisesDetermine : Type 0 where
       → Once (List ℕ × (ℕ × ℕ)) (λ r. (r.0 ≡ closed_events events.now kept) × (r.1 ≡ word_at events 0))
   -- the numbers of a verdict
   -- formula::number
-  pub number : (v : Verdict) → Once ℕ (λ r. r ≡ verdict_number v)
+  pub number : (answer : Result Verdict Refusal) → Once ℕ (λ r. r ≡ verdict_number answer)
   -- formula::value
-  pub value : (v : Verdict) → Once ℕ (λ r. r ≡ verdict_value v)
+  pub value : (answer : Result Verdict Refusal) → Once ℕ (λ r. r ≡ verdict_value answer)
   -- text and decimal digits added to a buffer
   -- text::add
   pub text : (out : List ℕ) (at : ℕ) (bytes : List ℕ) → Once (ℕ × List ℕ) (λ r. (r.0 ≡ added_end out at bytes) × (r.1 ≡ added out at bytes))
@@ -249,10 +255,12 @@ promises_determine = record {
   judge = λ m s now r t p q. p.answer ∙ sym q.answer;
   judge_of_bytes = λ m s now. one (packed (judged_from m s now));
   judged = λ m s now. one (judged_from m s now);
-  pack = λ v. one (packed v);
+  pack = λ answer. one (packed answer);
   evidence = λ m s now. two (evidence_of (judged_by m.now s.now now) m.now s.now) (start_of (judged_by m.now s.now now) m s);
-  check = λ m s now. one (checked m s now check.refused check.accepted);
-  spans = λ m s now list. two (spans_answer m s now (length list)) (list_after m s now list);
+  check = λ m s now. one (checked m s now Err (Ok tt));
+  spans = λ m s now list r t p q. let e = counted_once r.0 t.0 (p.0 ∙ sym q.0) in let f = p.1 ∙ sym q.1 in λ i. (e i, f i);
+  spans_counted = λ answer. one (counted answer);
+  spans_numbers = λ m s now list. two (spans_answer m s now (length list)) (list_after m s now list);
   good_store_lem = λ b. one (good_store b);
   delivery = once_delivered;
   group_delivery = λ g. once_delivered g.grants;
@@ -293,8 +301,8 @@ promises_determine = record {
   after_request = λ events kept code w. two (requested_kept (length events) kept code) (requested_list events kept code w);
   after_close = λ kept code. one (closed_kept kept code);
   of_closed = λ events kept. two (closed_events events.now kept) (word_at events 0);
-  number = λ v. one (verdict_number v);
-  value = λ v. one (verdict_value v);
+  number = λ answer. one (verdict_number answer);
+  value = λ answer. one (verdict_value answer);
   text = λ out at bytes. two (added_end out at bytes) (added out at bytes);
   decimal = λ out at n r t p q. let e = one_decimal out at n r.1 t.1 r.0 t.0 p q in λ i. (e.1 i, e.0 i);
   word_tick = λ w. one (tick_of w);

@@ -6,17 +6,21 @@ use mathlib.Core.Logic.{⊎_elim}
 use Prim.Native.Nat.{ℕ, ◌+◌, ◌*◌, ◌/◌, ◌%◌, ◌^◌, ◌≤◌}
 use native.Mathlib.Omega.{arith}
 use lib.Dec.{eqb, ltb, leb}
+use Rattle.std.specs.Prelude.{Result, Ok, Err}
 use lib.ListN.{length}
 use borrow.Author.Tests.{leb-true, le-ltb, not-false}
 use Rattle.base.proofs.Truth.{both, either}
 use Rattle.rules.specs.Ranges.{ticks, events}
 use Rattle.rules.specs.Refusals.{late_now, long_model, long_sheet, bad_model, bad_sheet}
+use Rattle.rules.specs.Refusal.{refusal_number}
+use Rattle.rules.specs.declared.refusal.Refusal.{Refusal as Reason}
+use Rattle.rules.specs.declared.refusal.Refusal.TheVariants.{LateNow, LongModel, LongSheet, BadModel, BadSheet}
 use Rattle.formula.specs.Formula.{History}
 use Rattle.formula.specs.Judged.{Judged, granted_by_add, granted_by_join, none as no-moment, strict_leave, strict_remove}
 use Rattle.formula.specs.Verdict.{verdict}
 use Rattle.formula.proofs.Judged.{judged}
 use Rattle.formula.specs.declared.Verdict.{Verdict}
-use Rattle.formula.specs.declared.Verdict.TheVariants.{Granted, Denied, Refused}
+use Rattle.formula.specs.declared.Verdict.TheVariants.{Granted, Denied}
 use Rattle.strip.specs.declared.Side.{Side}
 use Rattle.strip.specs.declared.Side.TheVariants.{Model, Sheet}
 use Rattle.strip.specs.Good.{good_place, first_bad}
@@ -31,10 +35,10 @@ use Rattle.demands.specs.Refusals.{strip_lines, judge_lines, bytes_lines, refuse
 use Rattle.demands.proofs.Lines.{any, first_each, first_each_last}
 
 -- a verdict of two histories is no refusal: no line of Judged is one
-answered : (model sheet : History) (now : ℕ) → refused_verdict (verdict model sheet now) ≡ none
+answered : (model sheet : History) (now : ℕ) → refused_verdict (Ok (verdict model sheet now)) ≡ none
 answered model sheet now = go (judged model sheet now)
   where
-    go : {v : Verdict} → Judged model sheet now v → refused_verdict v ≡ none
+    go : {v : Result Verdict Reason} → Judged model sheet now v → refused_verdict v ≡ none
     go (granted_by_add t g l a) = refl
     go (granted_by_join t g l a) = refl
     go (no-moment h) = refl
@@ -75,15 +79,15 @@ module _ (m s : List ℕ) (now : ℕ) where
 -- ---- the judge
 
 -- 13 and 14, or a verdict
-strips_order : (d e : Bool) (x y : ℕ) (v : Verdict) → refused_verdict v ≡ none
-    → refused_verdict (cond d (Refused bad_model x) (cond e (Refused bad_sheet y) v)) ≡ cond d (at bad_model x) (cond e (at bad_sheet y) none)
+strips_order : (d e : Bool) (x y : ℕ) (v : Result Verdict Reason) → refused_verdict v ≡ none
+    → refused_verdict (cond d (Err (BadModel x)) (cond e (Err (BadSheet y)) v)) ≡ cond d (at bad_model x) (cond e (at bad_sheet y) none)
 strips_order true e x y v a = refl
 strips_order false true x y v a = refl
 strips_order false false x y v a = a
 
 -- 10, 11 and 12 before
-judge_order : (a b c : Bool) (v : Verdict) (rest : List Line) → (a ≡ false → b ≡ false → c ≡ false → refused_verdict v ≡ first_met rest)
-    → refused_verdict (cond a (Refused late_now 0) (cond b (Refused long_model 0) (cond c (Refused long_sheet 0) v)))
+judge_order : (a b c : Bool) (v : Result Verdict Reason) (rest : List Line) → (a ≡ false → b ≡ false → c ≡ false → refused_verdict v ≡ first_met rest)
+    → refused_verdict (cond a (Err LateNow) (cond b (Err LongModel) (cond c (Err LongSheet) v)))
     ≡ first_met (line a (plain late_now) ∷ line b (plain long_model) ∷ line c (plain long_sheet) ∷ rest)
 unfolding first_met
 judge_order true b c v rest e = refl
@@ -92,29 +96,30 @@ judge_order false false true v rest e = refl
 judge_order false false false v rest e = e refl refl refl
 
 module _ (m s : List ℕ) (now : ℕ) where
-  strips_told : refused_verdict (cond (ltb (first_bad Model now m) (length m)) (Refused bad_model (first_bad Model now m))
-      (cond (ltb (first_bad Sheet now s) (length s)) (Refused bad_sheet (first_bad Sheet now s)) (verdict (history_of m) (history_of s) now)))
+  strips_told : refused_verdict (cond (ltb (first_bad Model now m) (length m)) (Err (BadModel (first_bad Model now m)))
+      (cond (ltb (first_bad Sheet now s) (length s)) (Err (BadSheet (first_bad Sheet now s))) (Ok (verdict (history_of m) (history_of s) now))))
       ≡ first_met (strip_lines Model now m bad_model ++ strip_lines Sheet now s bad_sheet)
   strips_told =
       strips_order (ltb (first_bad Model now m) (length m)) (ltb (first_bad Sheet now s) (length s)) (first_bad Model now m) (first_bad Sheet now s)
-      (verdict (history_of m) (history_of s) now) (answered (history_of m) (history_of s) now)
+      (Ok (verdict (history_of m) (history_of s) now)) (answered (history_of m) (history_of s) now)
       ∙ sym (strips_first m s now)
 
   judge_first : refused_verdict (judged_by m s now) ≡ first_met (judge_lines m s now)
   judge_first = judge_order (ltb ticks now) (ltb events (length m)) (ltb events (length s)) _ _ (λ a b c. strips_told)
 
 -- a refused verdict has no evidence, and goes to C as its number and place
-no_evidence : (v : Verdict) (m s : List ℕ) → ((refused_verdict v).number ≡ 0 → ⊥) → evidence_of v m s ≡ []
-no_evidence (Granted moment) m s r = absurd (r refl)
-no_evidence (Denied cause) m s r = absurd (r refl)
-no_evidence (Refused number place) m s r = refl
+no_evidence : (v : Result Verdict Reason) (m s : List ℕ) → ((refused_verdict v).number ≡ 0 → ⊥) → evidence_of v m s ≡ []
+no_evidence (Ok (Granted moment)) m s r = absurd (r refl)
+no_evidence (Ok (Denied cause)) m s r = absurd (r refl)
+no_evidence (Err refusal) m s r = refl
 
-packed_verdict : (v : Verdict) → packed v ≡ cond (eqb (refused_verdict v).number 0) (packed v) ((refused_verdict v).number * 2 ^ 32 + (refused_verdict v).place)
-packed_verdict (Granted moment) = refl
-packed_verdict (Denied cause) = refl
-packed_verdict (Refused number place) = ⊎_elim (λ (t : eqb number 0 ≡ true). simp t) (λ (f : eqb number 0 ≡ false). simp f) (either (eqb number 0))
+packed_verdict : (v : Result Verdict Reason) → packed v ≡ cond (eqb (refused_verdict v).number 0) (packed v) ((refused_verdict v).number * 2 ^ 32 + (refused_verdict v).place)
+packed_verdict (Ok (Granted moment)) = refl
+packed_verdict (Ok (Denied cause)) = refl
+packed_verdict (Err refusal) =
+    ⊎_elim (λ (t : eqb (refusal_number refusal) 0 ≡ true). simp t) (λ (f : eqb (refusal_number refusal) 0 ≡ false). simp f) (either (eqb (refusal_number refusal) 0))
 
-packed_cases : (a b c : Bool) (v : Verdict) → let w = cond a (Refused late_now 0) (cond b (Refused long_model 0) (cond c (Refused long_sheet 0) v)) in
+packed_cases : (a b c : Bool) (v : Result Verdict Reason) → let w = cond a (Err LateNow) (cond b (Err LongModel) (cond c (Err LongSheet) v)) in
     packed w ≡ cond (eqb (refused_verdict w).number 0) (packed v) ((refused_verdict w).number * 2 ^ 32 + (refused_verdict w).place)
 packed_cases true b c v = refl
 packed_cases false true c v = refl

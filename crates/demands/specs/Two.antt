@@ -4,7 +4,7 @@
 --
 -- `Grant` is the formula (the formula's specs/Formula.antt), of the events that a run has accepted; a run is any list of calls, of any length,
 -- refused ones among them.
-use Rattle.std.specs.Prelude.{◌≡◌, true, false, ◌↔◌, List, ◌++◌, ℕ, ◌≤◌, ◌<◌, length, get_or, take, drop}
+use Rattle.std.specs.Prelude.{◌≡◌, true, false, ◌↔◌, List, ◌++◌, ℕ, ◌≤◌, ◌<◌, length, get_or, take, drop, Ok}
 use Rattle.rules.specs.Ranges.{models, sheets, groups}
 use Rattle.bits.specs.Bit.{bit}
 use Rattle.formula.specs.Formula.{Grant}
@@ -32,7 +32,7 @@ pub record ReadBack {State : Type 0} (G : Gate State) (T number : ℕ) (ws b lis
 pub record DemandTwo {State : Type 0} (G : Gate State) : Type 0 where
   -- from the history: of any strips that the judge takes
   pub judge : (m s : List ℕ) (now : ℕ) → StripsAccepted m s now
-      → (((x : Moment) × (G.judge m s now ≡ VerdictGranted x)) ↔ Grant (history_of m) (history_of s) now) × Judged (history_of m) (history_of s) now (G.judge m s now)
+      → (((x : Moment) × (G.judge m s now ≡ Ok (VerdictGranted x))) ↔ Grant (history_of m) (history_of s) now) × Judged (history_of m) (history_of s) now (G.judge m s now)
   -- from the running gate: of any group that calls have reached from fresh
   pub gate : (number : ℕ) (calls : List Call) → Gated G (reach G (start_fresh G number) calls)
   -- the same from an accepted book, and any calls on the group that it was read into

@@ -11,14 +11,12 @@ use formula::{Moment, Verdict};
 fn place_of(s: &[u32], tick: u32) -> usize
     ensures { (result ≡ place_of s.now tick) × (result ≤ length s.now) }
 {
-    let mut i: usize = 0;
-    while i < s.len() {
-        if event::tick(s[i]) == tick {
+    for (i, word) in s.iter().enumerate() {
+        if event::tick(*word) == tick {
             return i;
         }
-        i += 1;
     }
-    i
+    s.len()
 }
 
 // Denied or refused: the empty part at the start of the model's strip.
@@ -26,17 +24,9 @@ pub fn evidence<'a>(m: &'a [u32], s: &'a [u32], now: u32) -> &'a [u32]
     ensures { (result.now ≡ evidence_of (judged_by m.now s.now now) m.now s.now)
         × (result.ref_ptr ≡ start_of (judged_by m.now s.now now) m.entry s.entry) }
 {
-    let Ok(Verdict::Granted(moment)) = judge::judge(m, s, now) else {
-        return &m[0..0];
-    };
-    match moment {
-        Moment::Add(tick) => {
-            let at = place_of(s, tick);
-            &s[at..]
-        }
-        Moment::Join(tick) => {
-            let at = place_of(m, tick);
-            &m[at..]
-        }
+    match judge::judge(m, s, now) {
+        Ok(Verdict::Granted(Moment::Add(tick))) => &s[place_of(s, tick)..],
+        Ok(Verdict::Granted(Moment::Join(tick))) => &m[place_of(m, tick)..],
+        _ => &m[..0],
     }
 }

@@ -16,5 +16,5 @@ pub fn ferrulebee_evidence<'a>(m: &'a [u32], s: &'a [u32], now: u32) -> Part
 pub fn ferrulebee_spans(m: &[u32], s: &[u32], now: u32, list: &mut [u32]) -> SpansAnswer
     ensures { (result ≡ spans_answer m.now s.now now (length list.old)) × (list.new ≡ list_after m.now s.now now list.old) }
 {
-    span::spans(m, s, now, list)
+    span::spans(m, s, now, list).into()
 }

@@ -13,6 +13,7 @@ use Rattle.rules.specs.Ranges.{models, sheets, ticks, events}
 use Rattle.formula.specs.Formula.{History, Grant}
 use Rattle.formula.specs.Ticks.{grant}
 use Rattle.formula.specs.declared.Moment.{Moment}
+use Rattle.std.specs.Prelude.{Ok}
 use Rattle.formula.specs.declared.Verdict.TheVariants.{Granted as Judged}
 use Rattle.formula.proofs.Meaning.{means_grant}
 use Rattle.strip.specs.declared.Side.{Side}
@@ -98,7 +99,7 @@ module _ (number : ℕ) (calls : List Move) where
 
   -- Asked for the two strips at the last close, the judge grants exactly what the gate grants.
   pub judge_agrees : (m s : ℕ) → m < models → s < sheets → length (strip Model m now) ≤ events → length (strip Sheet s now) ≤ events
-      → ((x : Moment) × (judged_by (strip Model m now) (strip Sheet s now) now ≡ Judged x)) ↔ (granted gate.grants m s ≡ true)
+      → ((x : Moment) × (judged_by (strip Model m now) (strip Sheet s now) now ≡ Ok (Judged x))) ↔ (granted gate.grants m s ≡ true)
   judge_agrees m s l b short_m short_s =
       let judge = judge_grants (strip Model m now) (strip Sheet s now) now
       (record { tick = now_bounded; short_m = short_m; short_s = short_s; good_m = closed_good Model m l; good_s = closed_good Sheet s b }) in

@@ -1,5 +1,6 @@
 -- The rules' histories to be proved (RULES.md 14.1), as one table: the model's events, the sheet's, now, and what the judge says.
-use Rattle.std.specs.Prelude.{ℕ, List, [], ◌∷◌}
+use Rattle.std.specs.Prelude.{ℕ, List, [], ◌∷◌, Result, Ok}
+use Rattle.rules.specs.declared.refusal.Refusal.{Refusal}
 use Rattle.rules.specs.Kinds as kinds
 use Rattle.event.specs.Word.{word_of}
 use Rattle.formula.specs.declared.Verdict.{Verdict}
@@ -37,10 +38,10 @@ pub record Row : Type 0 where
   pub model : List ℕ
   pub sheet : List ℕ
   pub now : ℕ
-  pub says : Verdict
+  pub says : Result Verdict Refusal
 
 row : List ℕ → List ℕ → ℕ → Verdict → Row
-row m s now v = record { model = m; sheet = s; now = now; says = v }
+row m s now v = record { model = m; sheet = s; now = now; says = Ok v }
 
 unfoldable pub histories : List Row
 unfolding row
@@ -61,5 +62,5 @@ histories =
     ∷ []
 
 -- what the judge says of a row
-abbrev pub asked : Row → Verdict
+abbrev pub asked : Row → Result Verdict Refusal
 asked r = judged_by r.model r.sheet r.now

@@ -4,4 +4,5 @@ pub mod Few
 pub mod Fit
 pub mod Going
 pub mod Judge
+pub mod Once
 pub mod Wrong

@@ -30,7 +30,10 @@ fn listed<P: Print>(page: &mut Page<P>, asked: Asked, book: Book) {
     for model in asked.models {
         for sheet in asked.sheets.start..asked.sheets.end {
             let told = span::spans(models.of(model), sheets.of(sheet), book.ticks, &mut list);
-            lines(page, model, sheet, &list, told.count);
+            // refused where a strip is not good, which no strip of a book that was read is
+            if let Ok(count) = told {
+                lines(page, model, sheet, &list, count);
+            }
         }
     }
     page.total("spans");

@@ -4,6 +4,8 @@ use mathlib.Core.Bool.{true, not}
 use mathlib.Core.List.{List, [], ◌∷◌}
 use Prim.Native.Nat.{ℕ, ◌<◌}
 use lib.ListN.{length}
+use Rattle.std.specs.Prelude.{Result}
+use Rattle.rules.specs.declared.refusal.Refusal.{Refusal}
 use Rattle.formula.specs.declared.Verdict.{Verdict}
 use Rattle.group.specs.Read.{ReadAnswer}
 use Rattle.group.specs.declared.Group.{Group}
@@ -24,7 +26,7 @@ use Rattle.wrong.proofs.Story.{Turn, calls_of, tell_all, all_fit, begins, stands
 
 -- a gate with our fresh groups, requests and closes
 module _ (reads : Group → ℕ → ℕ → ReadAnswer) (masks : List Group → ℕ → ℕ → MaskAnswer) (delivers : Group → ℕ → List ℕ → List ℕ → Delivery)
-    (delivered : Group → ℕ → List ℕ → List ℕ → List ℕ) (judges : List ℕ → List ℕ → ℕ → Verdict) where
+    (delivered : Group → ℕ → List ℕ → List ℕ → List ℕ) (judges : List ℕ → List ℕ → ℕ → Result Verdict Refusal) where
   abbrev pub moves : Gate Group
   moves = replacing ours.fresh ours.request ours.close reads masks delivers delivered judges ours.judge_bytes
 

@@ -1,7 +1,9 @@
 -- Wrong gates. Each is ours but for what its comment says.
-use Rattle.std.specs.Prelude.{cond, ◌&&◌, List, [], ◌∷◌, ◌++◌, ℕ, zero, suc, ◌+◌, ◌-◌, ◌^◌, eqb, leb, length, take, drop}
+use Rattle.std.specs.Prelude.{cond, ◌&&◌, List, [], ◌∷◌, ◌++◌, ℕ, zero, suc, ◌+◌, ◌-◌, ◌^◌, eqb, leb, length, take, drop, Result, Ok, Err}
 use Rattle.rules.specs.Kinds.{SR}
 use Rattle.rules.specs.Ranges.{sheets}
+use Rattle.rules.specs.declared.refusal.Refusal.{Refusal}
+use Rattle.rules.specs.declared.refusal.Refusal.TheVariants.{LateNow}
 use Rattle.rules.specs.Refusals.{bad_kind, bad_number, no_tick_left, bad_list, bad_group, late_now, bad_length, bad_header, bad_store}
 use Rattle.wire.specs.Word.{le32, bytes32}
 use Rattle.replay.specs.Replay.{counted}
@@ -27,7 +29,7 @@ use Rattle.demands.specs.Ours.{ours}
 
 -- our gate with some of its calls replaced
 abbrev pub replacing : (ℕ → Left Group) → (Group → ℕ → ℕ → Left Group) → (Group → Left Group) → (Group → ℕ → ℕ → ReadAnswer) → (List Group → ℕ → ℕ → MaskAnswer)
-    → (Group → ℕ → List ℕ → List ℕ → Delivery) → (Group → ℕ → List ℕ → List ℕ → List ℕ) → (List ℕ → List ℕ → ℕ → Verdict) → (List ℕ → List ℕ → ℕ → ℕ) → Gate Group
+    → (Group → ℕ → List ℕ → List ℕ → Delivery) → (Group → ℕ → List ℕ → List ℕ → List ℕ) → (List ℕ → List ℕ → ℕ → Result Verdict Refusal) → (List ℕ → List ℕ → ℕ → ℕ) → Gate Group
 replacing fresh request close read mask deliver delivered judge judge_bytes = record {
   number = ours.number;
   closed = ours.closed;
@@ -71,7 +73,7 @@ refuses_all = record {
   mask = λ gs m s. record { code = bad_list; mask = 0 };
   deliver = λ g m store out. delivery.Refused bad_store 0;
   delivered = λ g m store out. out;
-  judge = λ m s now. verdict.Refused late_now 0;
+  judge = λ m s now. Err LateNow;
   evidence = λ m s now. [];
   judge_bytes = λ m s now. 0;
   spans = λ m s now list. record { code = late_now; place = 0; count = 0 };
@@ -132,20 +134,20 @@ nameless = replacing (λ number. ours.fresh 0) ours.request ours.close ours.read
 -- ---- the judge
 
 -- our gate with another judge, and with another judge from C
-abbrev pub judging : (List ℕ → List ℕ → ℕ → Verdict) → (List ℕ → List ℕ → ℕ → ℕ) → Gate Group
+abbrev pub judging : (List ℕ → List ℕ → ℕ → Result Verdict Refusal) → (List ℕ → List ℕ → ℕ → ℕ) → Gate Group
 judging = replacing ours.fresh ours.request ours.close ours.read ours.mask ours.deliver ours.delivered
 
 -- always denies
 abbrev pub denies_all : Gate Group
-denies_all = judging (λ m s now. verdict.Denied None) ours.judge_bytes
+denies_all = judging (λ m s now. Ok (verdict.Denied None)) ours.judge_bytes
 
 -- a strict cause told with another tick
-abbrev pub dated : ℕ → Verdict → Verdict
-dated t (verdict.Granted moment) = verdict.Granted moment
-dated t (verdict.Denied None) = verdict.Denied None
-dated t (verdict.Denied (StrictLeave e)) = verdict.Denied (StrictLeave t)
-dated t (verdict.Denied (StrictRemove e)) = verdict.Denied (StrictRemove t)
-dated t (verdict.Refused number place) = verdict.Refused number place
+abbrev pub dated : ℕ → Result Verdict Refusal → Result Verdict Refusal
+dated t (Ok (verdict.Granted moment)) = Ok (verdict.Granted moment)
+dated t (Ok (verdict.Denied None)) = Ok (verdict.Denied None)
+dated t (Ok (verdict.Denied (StrictLeave e))) = Ok (verdict.Denied (StrictLeave t))
+dated t (Ok (verdict.Denied (StrictRemove e))) = Ok (verdict.Denied (StrictRemove t))
+dated t (Err refusal) = Err refusal
 
 -- with tick 0
 abbrev pub undated : Gate Group
@@ -177,12 +179,12 @@ abbrev pub late_dated : Gate Group
 late_dated = judging (λ m s now. dated (latest_strict (history_of m) (history_of s) now) (ours.judge m s now)) ours.judge_bytes
 
 -- names the remove where a strict leave and a strict remove fall in one tick
-abbrev pub renamed : History → Verdict → Verdict
-renamed sheet (verdict.Granted moment) = verdict.Granted moment
-renamed sheet (verdict.Denied None) = verdict.Denied None
-renamed sheet (verdict.Denied (StrictLeave e)) = cond (eqb (sheet e) SR) (verdict.Denied (StrictRemove e)) (verdict.Denied (StrictLeave e))
-renamed sheet (verdict.Denied (StrictRemove e)) = verdict.Denied (StrictRemove e)
-renamed sheet (verdict.Refused number place) = verdict.Refused number place
+abbrev pub renamed : History → Result Verdict Refusal → Result Verdict Refusal
+renamed sheet (Ok (verdict.Granted moment)) = Ok (verdict.Granted moment)
+renamed sheet (Ok (verdict.Denied None)) = Ok (verdict.Denied None)
+renamed sheet (Ok (verdict.Denied (StrictLeave e))) = Ok (cond (eqb (sheet e) SR) (verdict.Denied (StrictRemove e)) (verdict.Denied (StrictLeave e)))
+renamed sheet (Ok (verdict.Denied (StrictRemove e))) = Ok (verdict.Denied (StrictRemove e))
+renamed sheet (Err refusal) = Err refusal
 
 abbrev pub misnaming : Gate Group
 misnaming = judging (λ m s now. renamed (history_of s) (ours.judge m s now)) ours.judge_bytes

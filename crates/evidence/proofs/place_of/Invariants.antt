@@ -1,9 +1,9 @@
 -- The loop has passed no event of the tick.
 use mathlib.Core.Bool.{Bool}
 use mathlib.Core.List.{List}
-use Prim.Native.Nat.{ℕ, ◌≤◌, ◌-◌}
+use Prim.Native.Nat.{ℕ}
 use lib.Dec.{eqb}
-use lib.ListN.{length, get_or}
+use lib.ListN.{get_or}
 use Rattle.base.proofs.First.{None}
 use Rattle.event.specs.Word.{tick_of}
 use Rattle.evidence.proofs.place_of.Given as goal
@@ -12,7 +12,4 @@ abbrev pub has : List ℕ → ℕ → ℕ → Bool
 has s t i = eqb (tick_of (get_or s i 0)) t
 
 abbrev pub invariant-loop-i : goal.invariant-loop-i
-invariant-loop-i l = (l.i ≤ length l.s) × None (has l.s l.tick) l.i
-
-abbrev pub decreases-loop-i : goal.decreases-loop-i
-decreases-loop-i l = length l.s - l.i
+invariant-loop-i l = None (has l.s l.tick) l.i
