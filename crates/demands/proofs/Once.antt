@@ -6,13 +6,15 @@ use mathlib.Core.Bool.{Bool, cond}
 use Prim.Native.Nat.{ℕ, ◌≤◌}
 use lib.ListN.{length, replicate}
 use denote.Ref.{Bor}
+use Rattle.std.specs.Prelude.{Result, ⊤}
 use Rattle.base.specs.HowMany.{how_many}
 use Rattle.base.specs.Part.{word_at}
 use Rattle.bits.specs.Bit.{width, bit, next_bit, after_word}
 use Rattle.sets.specs.Set.{either, after}
 use Rattle.book.specs.Read.{book_read, list_read}
 use Rattle.tick.specs.Tick.{tick_part, tick_start, rising, place_from}
-use Rattle.book.specs.Write.{book_written, buffer_written}
+use Rattle.book.specs.Write.{written_in_numbers, book_written, buffer_written}
+use Rattle.book.proofs.Once.{written_once}
 use Rattle.book.specs.declared.BookRead.{BookRead}
 use Rattle.book.specs.declared.BookWritten.{BookWritten}
 use Rattle.delivery.specs.Answer.{answer, Delivers, buffer_after}
@@ -58,6 +60,9 @@ use Rattle.pass.specs.Pass.{begun}
 use Rattle.pass.specs.declared.Pass.{Pass}
 use Rattle.span.specs.Answer.{spans_answer, list_after}
 use Rattle.span.specs.declared.SpansAnswer.{SpansAnswer}
+use Rattle.rules.specs.Refusal.{told, alone}
+use Rattle.rules.specs.declared.refusal.Refusal.{Refusal}
+use Rattle.rules.proofs.Told.{told_once}
 use Rattle.station.specs.Mask.{mask_answer}
 use Rattle.station.specs.declared.MaskAnswer.{MaskAnswer}
 use Rattle.store.specs.Store.{good_store}
@@ -122,13 +127,16 @@ pub record PromisesDetermine : Type 0 where
   -- the book: reader with its word list, writer with its buffer, and the records of one tick: the same words at the same place
   -- book::read, ferrulebee_book_read
   pub reader : (b list : List ℕ) → Once (BookRead × List ℕ) (λ r. (r.0 ≡ book_read b (length list)) × (r.1 ≡ list_read b list))
-  -- book::write, ferrulebee_book_write
+  -- book::write
+  pub write : (T n : ℕ) (ws buffer : List ℕ)
+      → Once (Result ℕ Refusal × List ℕ) (λ r. (written_in_numbers r.0 ≡ book_written T n ws (length buffer)) × (r.1 ≡ buffer_written T n ws buffer))
+  -- ferrulebee_book_write
   pub writer : (T n : ℕ) (ws buffer : List ℕ)
       → Once (BookWritten × List ℕ) (λ r. (r.0 ≡ book_written T n ws (length buffer)) × (r.1 ≡ buffer_written T n ws buffer))
   -- format::header_refusal
-  pub header_refusal_lem : (b : List ℕ) (words : ℕ) → Once ℕ (λ r. r ≡ header_refusal b words)
+  pub header_refusal_lem : (b : List ℕ) (words : ℕ) → Once (Result ⊤ Refusal) (λ r. told r ≡ alone (header_refusal b words))
   -- format::room_refusal
-  pub room_refusal_lem : (T n count long : ℕ) → Once ℕ (λ r. r ≡ room_refusal T n count long)
+  pub room_refusal_lem : (T n count long : ℕ) → Once (Result ⊤ Refusal) (λ r. told r ≡ alone (room_refusal T n count long))
   -- tick::tick_part
   pub tick_part_lem : (ws : Bor (List ℕ)) (t : ℕ)
       → Once (List ℕ × (ℕ × ℕ)) (λ r. (r.0 ≡ tick_part ws.now t) × (r.1 ≡ word_at ws (tick_start ws.now t)))
@@ -258,9 +266,10 @@ promises_determine = record {
   delivery = once_delivered;
   group_delivery = λ g. once_delivered g.grants;
   reader = λ b list. two (book_read b (length list)) (list_read b list);
+  write = λ T n ws buffer r t p q. λ i. (written_once r.0 t.0 (p.0 ∙ sym q.0) i, (p.1 ∙ sym q.1) i);
   writer = λ T n ws buffer. two (book_written T n ws (length buffer)) (buffer_written T n ws buffer);
-  header_refusal_lem = λ b words. one (header_refusal b words);
-  room_refusal_lem = λ T n count long. one (room_refusal T n count long);
+  header_refusal_lem = λ b words r t p q. told_once (p ∙ sym q);
+  room_refusal_lem = λ T n count long r t p q. told_once (p ∙ sym q);
   tick_part_lem = λ ws t. two (tick_part ws.now t) (word_at ws (tick_start ws.now t));
   first_bad_lem = λ side now s. one (first_bad side now s);
   gather = λ words side n out at. two (gathered_end words side n out at) (gathered words side n out at);

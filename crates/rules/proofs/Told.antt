@@ -79,3 +79,10 @@ refused (Err refusal) = refusal
 pub refusal_once : (r s : Refusal) → refusal_number r ≡ refusal_number s → refusal_place r ≡ refusal_place s → r ≡ s
 unfolding refused
 refusal_once r s n p = ap refused (told_once {r = Err r} {s = Err s} (ap₂ (λ (code place : ℕ). record { code = code; place = place }) n p))
+
+-- no refusal has the number 0, which stands for none
+pub never_zero : (refusal : Refusal) → refusal_number refusal ≡ 0 → ⊥
+unfolding named
+never_zero refusal e =
+    let none : Err refusal ≡ Ok tt = sym (named_told (Err refusal)) ∙ ap (λ (n : ℕ). named n (refusal_place refusal)) e in
+    cc
