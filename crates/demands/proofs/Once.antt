@@ -18,7 +18,7 @@ use Rattle.book.proofs.Once.{written_once}
 use Rattle.book.specs.declared.BookRead.{BookRead}
 use Rattle.book.specs.declared.BookWritten.{BookWritten}
 use Rattle.delivery.specs.Answer.{answer, Delivers, buffer_after}
-use Rattle.delivery.specs.declared.Delivery.{Delivery}
+use Rattle.delivery.specs.Delivery.{delivery_told}
 use Rattle.delivery.proofs.Once.{once}
 use Rattle.event.specs.Word.{tick_of, kind_of, number_of}
 use Rattle.format.specs.Header.{header_refusal, room_refusal}
@@ -120,10 +120,10 @@ pub record PromisesDetermine : Type 0 where
   pub good_store_lem : (b : List ℕ) → Once Bool (λ r. r ≡ good_store b)
   -- delivery::granted::deliver
   pub delivery : (grants : List ℕ) (m : ℕ) (store out : List ℕ)
-      → Once (Delivery × List ℕ) (λ r. Delivers grants m store (length out) r.0 × (r.1 ≡ buffer_after grants m store out))
+      → Once (Result ℕ Refusal × List ℕ) (λ r. Delivers grants m store (length out) (delivery_told r.0) × (r.1 ≡ buffer_after grants m store out))
   -- delivery::deliver
   pub group_delivery : (g : Group) (m : ℕ) (store out : List ℕ)
-      → Once (Delivery × List ℕ) (λ r. Delivers g.grants m store (length out) r.0 × (r.1 ≡ buffer_after g.grants m store out))
+      → Once (Result ℕ Refusal × List ℕ) (λ r. Delivers g.grants m store (length out) (delivery_told r.0) × (r.1 ≡ buffer_after g.grants m store out))
   -- the book: reader with its word list, writer with its buffer, and the records of one tick: the same words at the same place
   -- book::read, ferrulebee_book_read
   pub reader : (b list : List ℕ) → Once (BookRead × List ℕ) (λ r. (r.0 ≡ book_read b (length list)) × (r.1 ≡ list_read b list))
@@ -150,7 +150,7 @@ pub record PromisesDetermine : Type 0 where
   -- crossing::numbers::of_read
   pub of_read : (a : ReadAnswer) → Once Read (λ r. r ≡ read_numbers a)
   -- crossing::numbers::of_delivery
-  pub of_delivery : (d : Delivery) → Once Delivered (λ r. r ≡ delivery_numbers d)
+  pub of_delivery : (d : Result ℕ Refusal) → Once Delivered (λ r. r ≡ delivery_numbers (delivery_told d))
   -- ferrulebee_read
   pub read_numbers_lem : (g : Group) (m s : ℕ) → Once Read (λ r. r ≡ read_numbers (read_answer g m s))
   -- ferrulebee_deliver
@@ -242,7 +242,7 @@ module _ {A B : Type 0} where
   two a b r t p q = λ i. ((p.0 ∙ sym q.0) i, (p.1 ∙ sym q.1) i)
 
 once_delivered : (grants : List ℕ) (m : ℕ) (store out : List ℕ)
-    → Once (Delivery × List ℕ) (λ r. Delivers grants m store (length out) r.0 × (r.1 ≡ buffer_after grants m store out))
+    → Once (Result ℕ Refusal × List ℕ) (λ r. Delivers grants m store (length out) (delivery_told r.0) × (r.1 ≡ buffer_after grants m store out))
 once_delivered grants m store out r t p q = let e = once grants m store out r.0 t.0 r.1 t.1 p q in λ i. (e.0 i, e.1 i)
 
 pub promises_determine : PromisesDetermine
@@ -274,7 +274,7 @@ promises_determine = record {
   first_bad_lem = λ side now s. one (first_bad side now s);
   gather = λ words side n out at. two (gathered_end words side n out at) (gathered words side n out at);
   of_read = λ a. one (read_numbers a);
-  of_delivery = λ d. one (delivery_numbers d);
+  of_delivery = λ d. one (delivery_numbers (delivery_told d));
   read_numbers_lem = λ g m s. one (read_numbers (read_answer g m s));
   delivery_numbers_lem = λ g m store out. two (delivery_numbers (answer g.grants m store (length out))) (buffer_after g.grants m store out);
   records_numbers = λ ws t. one (records_part ws t);

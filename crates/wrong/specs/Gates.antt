@@ -21,8 +21,8 @@ use Rattle.group.specs.declared.Group.{Group}
 use Rattle.group.specs.declared.ReadAnswer.{ReadAnswer}
 use Rattle.group.specs.declared.ReadAnswer.TheVariants.{Granted, Denied, Refused}
 use Rattle.station.specs.declared.MaskAnswer.{MaskAnswer}
-use Rattle.delivery.specs.declared.Delivery.{Delivery}
-use Rattle.delivery.specs.declared.Delivery.TheVariants as delivery
+use Rattle.delivery.specs.Delivery.{Delivery}
+use Rattle.delivery.specs.Delivery as delivery
 use Rattle.demands.specs.Gate.{Left, Gate}
 use Rattle.demands.specs.Ours.{ours}
 
