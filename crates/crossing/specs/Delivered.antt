@@ -1,5 +1,5 @@
 -- A delivery's answer from C.
-use Rattle.delivery.specs.declared.Delivery.{Delivery}
+use Rattle.delivery.specs.Delivery.{Delivery}
 use Rattle.delivery.specs.Answer.{delivery_number, delivery_place, delivered_length}
 use Rattle.crossing.specs.declared.numbers.Delivered as C
 

@@ -1,10 +1,10 @@
 // The answers of a read and of a delivery in numbers.
 ghost use Rattle.std.specs.Prelude.{◌≡◌};
 ghost use Rattle.crossing.specs.Delivered.{delivery_numbers};
+ghost use Rattle.delivery.specs.Delivery.{delivery_told};
 ghost use Rattle.crossing.specs.Read.{read_numbers};
 ghost use Rattle.group.specs.Read.{read_told};
 
-use delivery::Delivery;
 use rules::refusal::Refusal;
 
 // A refusal's number, or 0 with 1 for granted and 0 for denied.
@@ -39,18 +39,18 @@ pub struct Delivered {
     pub length: u32,
 }
 
-pub fn of_delivery(delivery: Delivery) -> Delivered
-    ensures { result ≡ delivery_numbers delivery }
+pub fn of_delivery(delivery: Result<u32, Refusal>) -> Delivered
+    ensures { result ≡ delivery_numbers (delivery_told delivery) }
 {
     match delivery {
-        Delivery::Delivered(length) => Delivered {
+        Ok(length) => Delivered {
             code: 0,
             place: 0,
             length,
         },
-        Delivery::Refused(code, place) => Delivered {
-            code,
-            place,
+        Err(refusal) => Delivered {
+            code: refusal.number(),
+            place: refusal.place(),
             length: 0,
         },
     }

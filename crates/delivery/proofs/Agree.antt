@@ -23,7 +23,7 @@ use Rattle.parts.proofs.Fault.{fault_free, first_granted}
 use Rattle.parts.proofs.Granted.{below_same}
 use Rattle.parts.proofs.Listed.{granted_exactly}
 use Rattle.parts.proofs.Parts.{parts_same}
-use Rattle.delivery.specs.declared.Delivery.{Delivery}
+use Rattle.delivery.specs.Delivery.{Delivery}
 use Rattle.delivery.specs.Answer.{answer, written, buffer_after}
 use Rattle.delivery.specs.Agree.{Agree}
 

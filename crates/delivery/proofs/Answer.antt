@@ -12,8 +12,7 @@ use Rattle.store.specs.Store.{good_store}
 use Rattle.store.specs.Entry.{entry_fault}
 use Rattle.parts.specs.Fault.{first_faulty}
 use Rattle.parts.specs.Delivery.{granted_sheets, delivery_length, delivery_of}
-use Rattle.delivery.specs.declared.Delivery.{Delivery}
-use Rattle.delivery.specs.declared.Delivery.TheVariants.{Delivered, Refused}
+use Rattle.delivery.specs.Delivery.{Delivery, Delivered, Refused}
 use Rattle.delivery.specs.Answer.{decided, answer, delivery_number, delivery_place, delivered_length, Delivers, written, buffer_after}
 
 -- what is made of an answer is made of each of its cases

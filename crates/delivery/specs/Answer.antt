@@ -6,8 +6,7 @@ use Rattle.store.specs.Store.{good_store}
 use Rattle.store.specs.Entry.{entry_fault}
 use Rattle.parts.specs.Fault.{first_faulty}
 use Rattle.parts.specs.Delivery.{granted_sheets, delivery_length, delivery_of}
-use Rattle.delivery.specs.declared.Delivery.{Delivery}
-use Rattle.delivery.specs.declared.Delivery.TheVariants.{Delivered, Refused}
+use Rattle.delivery.specs.Delivery.{Delivery, Delivered, Refused}
 
 -- "delivery 2, 31, then granted sheets by rising number 32, 33, then 34. 32 and 33 name the sheet"; the others have no place, which is 0. By what is
 -- made of a refusal and its place, and else of the total length

@@ -1,2 +1,3 @@
 pub mod Agree
 pub mod Answer
+pub mod Delivery

@@ -5,18 +5,14 @@ pub mod granted;
 
 ghost use Rattle.std.specs.Prelude.{◌≡◌, length};
 ghost use Rattle.delivery.specs.Answer.{Delivers, buffer_after};
+ghost use Rattle.delivery.specs.Delivery.{delivery_told};
 
 use group::Group;
+use rules::refusal::Refusal;
 
-// A delivery's answer: its total length; or a refusal's number with its place, the sheet for 32 and 33 and else 0.
-#[derive(Clone, Copy)]
-pub enum Delivery {
-    Delivered(u32),
-    Refused(u32, u32),
-}
-
-pub fn deliver(group: Group, model: u32, sheets: &[u8], out: &mut [u8]) -> Delivery
-    ensures answered { Delivers group.grants model sheets.now (length out.old) result }
+// Delivers from the store the sheets that the group grants the model, and answers the delivery's total length.
+pub fn deliver(group: Group, model: u32, sheets: &[u8], out: &mut [u8]) -> Result<u32, Refusal>
+    ensures answered { Delivers group.grants model sheets.now (length out.old) (delivery_told result) }
     ensures left { out.new ≡ buffer_after group.grants model sheets.now out.old }
 {
     granted::deliver(&group.grants, model, sheets, out)

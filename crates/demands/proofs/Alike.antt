@@ -17,8 +17,7 @@ use Rattle.group.specs.declared.Group.{Group}
 use Rattle.parts.specs.Delivery.{delivery_of, granted_sheets}
 use Rattle.delivery.specs.Agree.{Agree}
 use Rattle.delivery.specs.Answer.{written}
-use Rattle.delivery.specs.declared.Delivery.{Delivery}
-use Rattle.delivery.specs.declared.Delivery.TheVariants.{Refused}
+use Rattle.delivery.specs.Delivery.{Delivery, Refused}
 use Rattle.delivery.proofs.Answer.{answer_number}
 use Rattle.history.proofs.Answers.{read_granted}
 use Rattle.demands.specs.Calls.{Call, deliver, delivered, answer_to, Run, start_fresh, next, reach}

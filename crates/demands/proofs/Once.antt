@@ -7,18 +7,18 @@ use Prim.Native.Nat.{ℕ, ◌≤◌}
 use lib.ListN.{length, replicate}
 use denote.Ref.{Bor}
 use Rattle.std.specs.Prelude.{Result, Ok, Err, ⊤}
-use Rattle.rules.specs.declared.refusal.Refusal.{Refusal}
 use Rattle.base.specs.HowMany.{how_many}
 use Rattle.base.specs.Part.{word_at}
 use Rattle.bits.specs.Bit.{width, bit, next_bit, after_word}
 use Rattle.sets.specs.Set.{either, after}
 use Rattle.book.specs.Read.{book_read, list_read}
 use Rattle.tick.specs.Tick.{tick_part, tick_start, rising, place_from}
-use Rattle.book.specs.Write.{book_written, buffer_written}
+use Rattle.book.specs.Write.{written_in_numbers, book_written, buffer_written}
+use Rattle.book.proofs.Once.{written_once}
 use Rattle.book.specs.declared.BookRead.{BookRead}
 use Rattle.book.specs.declared.BookWritten.{BookWritten}
 use Rattle.delivery.specs.Answer.{answer, Delivers, buffer_after}
-use Rattle.delivery.specs.declared.Delivery.{Delivery}
+use Rattle.delivery.specs.Delivery.{delivery_told}
 use Rattle.delivery.proofs.Once.{once}
 use Rattle.event.specs.Word.{tick_of, kind_of, number_of}
 use Rattle.format.specs.Header.{header_refusal, room_refusal}
@@ -58,6 +58,9 @@ use Rattle.pass.specs.declared.Pass.{Pass}
 use Rattle.span.specs.Answer.{counted, spans_answer, list_after}
 use Rattle.span.proofs.Once.{counted_once}
 use Rattle.span.specs.declared.SpansAnswer.{SpansAnswer}
+use Rattle.rules.specs.Refusal.{told, alone}
+use Rattle.rules.specs.declared.refusal.Refusal.{Refusal}
+use Rattle.rules.proofs.Told.{told_once}
 use Rattle.station.specs.Mask.{mask_answer}
 use Rattle.station.specs.declared.MaskAnswer.{MaskAnswer}
 use Rattle.store.specs.Store.{good_store}
@@ -120,20 +123,23 @@ pub record PromisesDetermine : Type 0 where
   pub good_store_lem : (b : List ℕ) → Once Bool (λ r. r ≡ good_store b)
   -- delivery::granted::deliver
   pub delivery : (grants : List ℕ) (m : ℕ) (store out : List ℕ)
-      → Once (Delivery × List ℕ) (λ r. Delivers grants m store (length out) r.0 × (r.1 ≡ buffer_after grants m store out))
+      → Once (Result ℕ Refusal × List ℕ) (λ r. Delivers grants m store (length out) (delivery_told r.0) × (r.1 ≡ buffer_after grants m store out))
   -- delivery::deliver
   pub group_delivery : (g : Group) (m : ℕ) (store out : List ℕ)
-      → Once (Delivery × List ℕ) (λ r. Delivers g.grants m store (length out) r.0 × (r.1 ≡ buffer_after g.grants m store out))
+      → Once (Result ℕ Refusal × List ℕ) (λ r. Delivers g.grants m store (length out) (delivery_told r.0) × (r.1 ≡ buffer_after g.grants m store out))
   -- the book: reader with its word list, writer with its buffer, and the records of one tick: the same words at the same place
   -- book::read, ferrulebee_book_read
   pub reader : (b list : List ℕ) → Once (BookRead × List ℕ) (λ r. (r.0 ≡ book_read b (length list)) × (r.1 ≡ list_read b list))
-  -- book::write, ferrulebee_book_write
+  -- book::write
+  pub write : (T n : ℕ) (ws buffer : List ℕ)
+      → Once (Result ℕ Refusal × List ℕ) (λ r. (written_in_numbers r.0 ≡ book_written T n ws (length buffer)) × (r.1 ≡ buffer_written T n ws buffer))
+  -- ferrulebee_book_write
   pub writer : (T n : ℕ) (ws buffer : List ℕ)
       → Once (BookWritten × List ℕ) (λ r. (r.0 ≡ book_written T n ws (length buffer)) × (r.1 ≡ buffer_written T n ws buffer))
   -- format::header_refusal
-  pub header_refusal_lem : (b : List ℕ) (words : ℕ) → Once ℕ (λ r. r ≡ header_refusal b words)
+  pub header_refusal_lem : (b : List ℕ) (words : ℕ) → Once (Result ⊤ Refusal) (λ r. told r ≡ alone (header_refusal b words))
   -- format::room_refusal
-  pub room_refusal_lem : (T n count long : ℕ) → Once ℕ (λ r. r ≡ room_refusal T n count long)
+  pub room_refusal_lem : (T n count long : ℕ) → Once (Result ⊤ Refusal) (λ r. told r ≡ alone (room_refusal T n count long))
   -- tick::tick_part
   pub tick_part_lem : (ws : Bor (List ℕ)) (t : ℕ)
       → Once (List ℕ × (ℕ × ℕ)) (λ r. (r.0 ≡ tick_part ws.now t) × (r.1 ≡ word_at ws (tick_start ws.now t)))
@@ -147,7 +153,7 @@ pub record PromisesDetermine : Type 0 where
   -- crossing::numbers::of_read
   pub of_read : (a : ReadAnswer) → Once Read (λ r. r ≡ read_numbers a)
   -- crossing::numbers::of_delivery
-  pub of_delivery : (d : Delivery) → Once Delivered (λ r. r ≡ delivery_numbers d)
+  pub of_delivery : (d : Result ℕ Refusal) → Once Delivered (λ r. r ≡ delivery_numbers (delivery_told d))
   -- ferrulebee_read
   pub read_numbers_lem : (g : Group) (m s : ℕ) → Once Read (λ r. r ≡ read_numbers (read_answer g m s))
   -- ferrulebee_deliver
@@ -239,7 +245,7 @@ module _ {A B : Type 0} where
   two a b r t p q = λ i. ((p.0 ∙ sym q.0) i, (p.1 ∙ sym q.1) i)
 
 once_delivered : (grants : List ℕ) (m : ℕ) (store out : List ℕ)
-    → Once (Delivery × List ℕ) (λ r. Delivers grants m store (length out) r.0 × (r.1 ≡ buffer_after grants m store out))
+    → Once (Result ℕ Refusal × List ℕ) (λ r. Delivers grants m store (length out) (delivery_told r.0) × (r.1 ≡ buffer_after grants m store out))
 once_delivered grants m store out r t p q = let e = once grants m store out r.0 t.0 r.1 t.1 p q in λ i. (e.0 i, e.1 i)
 
 pub promises_determine : PromisesDetermine
@@ -265,14 +271,15 @@ promises_determine = record {
   delivery = once_delivered;
   group_delivery = λ g. once_delivered g.grants;
   reader = λ b list. two (book_read b (length list)) (list_read b list);
+  write = λ T n ws buffer r t p q. λ i. (written_once r.0 t.0 (p.0 ∙ sym q.0) i, (p.1 ∙ sym q.1) i);
   writer = λ T n ws buffer. two (book_written T n ws (length buffer)) (buffer_written T n ws buffer);
-  header_refusal_lem = λ b words. one (header_refusal b words);
-  room_refusal_lem = λ T n count long. one (room_refusal T n count long);
+  header_refusal_lem = λ b words r t p q. told_once (p ∙ sym q);
+  room_refusal_lem = λ T n count long r t p q. told_once (p ∙ sym q);
   tick_part_lem = λ ws t. two (tick_part ws.now t) (word_at ws (tick_start ws.now t));
   first_bad_lem = λ side now s. one (first_bad side now s);
   gather = λ words side n out at. two (gathered_end words side n out at) (gathered words side n out at);
   of_read = λ a. one (read_numbers a);
-  of_delivery = λ d. one (delivery_numbers d);
+  of_delivery = λ d. one (delivery_numbers (delivery_told d));
   read_numbers_lem = λ g m s. one (read_numbers (read_answer g m s));
   delivery_numbers_lem = λ g m store out. two (delivery_numbers (answer g.grants m store (length out))) (buffer_after g.grants m store out);
   records_numbers = λ ws t. one (records_part ws t);

@@ -24,8 +24,7 @@ use Rattle.parts.specs.Ready.{Ready}
 use Rattle.parts.proofs.Listed.{behind, inside, delivery_count, delivery_total, delivery_lists, delivered_exactly}
 use Rattle.parts.proofs.Parts.{length_sheet, part_number, part_bytes, part_next}
 use Rattle.delivery.specs.Answer.{answer, written, buffer_after}
-use Rattle.delivery.specs.declared.Delivery.{Delivery}
-use Rattle.delivery.specs.declared.Delivery.TheVariants.{Delivered, Refused}
+use Rattle.delivery.specs.Delivery.{Delivery, Delivered, Refused}
 use Rattle.demands.specs.Delivered.{parts_of, parts_in, flat_parts, stored, Holds}
 
 -- ---- what `Delivered` tells

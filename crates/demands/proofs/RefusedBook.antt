@@ -15,16 +15,15 @@ use Rattle.format.specs.Header.{length_of, beyond, total_in, ticks_in, count_in,
 use Rattle.book.specs.Read.{records_in, read_refusal, book_read, list_read}
 use Rattle.records.specs.Records.{outside, carrier_of, last_of, breaks, record_refusal, first_refused, records_refusal}
 use Rattle.tick.specs.Tick.{not_greater}
-use Rattle.records.specs.Records as records
 use Rattle.book.specs.Write.{write_refusal, book_written, buffer_written}
-use Rattle.records.specs.declared.Refusal as book
+use Rattle.rules.specs.Refusal as book
 use Rattle.records.proofs.Pass.{well_formed, none_refused}
 use Rattle.demands.specs.Lines.{Refusal, at, plain, none, Line, line, first_met, each_below, Refuses}
 use Rattle.demands.specs.Refusals.{record_lines, reader_lines, writer_lines}
 use Rattle.demands.proofs.Lines.{any, first_each_last}
 
 -- the book's refusal, as a refusal of these lines
-abbrev told : book.Refusal → Refusal
+abbrev told : book.Told → Refusal
 told r = at r.code r.place
 
 -- ---- one record: out of range, not greater than the one before, not well-formed
@@ -78,9 +77,9 @@ module _ (T : ℕ) (ws : List ℕ) where
 
 -- ---- before the records: a refusal without a place, or none
 
-module _ (header : ℕ) (x : book.Refusal) where
-  abbrev after : book.Refusal
-  after = cond (eqb header 0) x (records.plain header)
+module _ (header : ℕ) (x : book.Told) where
+  abbrev after : book.Told
+  after = cond (eqb header 0) x (book.alone header)
 
   after_none : (x.code ≡ 0 → told x ≡ none) → after.code ≡ 0 → told after ≡ none
   after_none h = ⊎_elim
@@ -89,7 +88,7 @@ module _ (header : ℕ) (x : book.Refusal) where
       (either (eqb header 0))
 
 -- "reader 20 to 23, 28"
-reader_order : (a b c d e : Bool) (x : book.Refusal) (rest : List Line) → told x ≡ first_met rest
+reader_order : (a b c d e : Bool) (x : book.Told) (rest : List Line) → told x ≡ first_met rest
     → told (after (cond a bad_length (cond b bad_total (cond c bad_header (cond d bad_count (cond e short_list 0))))) x)
     ≡ first_met (line a (plain bad_length) ∷ line b (plain bad_total) ∷ line c (plain bad_header) ∷ line d (plain bad_count) ∷ line e (plain short_list) ∷ rest)
 unfolding first_met
@@ -101,7 +100,7 @@ reader_order false false false false true x rest h = refl
 reader_order false false false false false x rest h = h
 
 -- "writer 22, 27"
-writer_order : (a b : Bool) (x : book.Refusal) (rest : List Line) → told x ≡ first_met rest
+writer_order : (a b : Bool) (x : book.Told) (rest : List Line) → told x ≡ first_met rest
     → told (after (cond a bad_header (cond b short_buffer 0)) x) ≡ first_met (line a (plain bad_header) ∷ line b (plain short_buffer) ∷ rest)
 unfolding first_met
 writer_order true b x rest h = refl

@@ -17,8 +17,7 @@ use Rattle.store.specs.Store.{sheet_count, good_store}
 use Rattle.parts.specs.Delivery.{granted_sheets, delivery_length, delivery_of}
 use Rattle.parts.specs.Fault.{faulty, first_faulty}
 use Rattle.delivery.specs.Answer.{answer, written, buffer_after}
-use Rattle.delivery.specs.declared.Delivery.{Delivery}
-use Rattle.delivery.specs.declared.Delivery.TheVariants.{Delivered, Refused}
+use Rattle.delivery.specs.Delivery.{Delivery, Delivered, Refused}
 use Rattle.demands.specs.Lines.{Refusal, at, plain, none, Line, line, first_met, Refuses}
 use Rattle.demands.specs.Refusals.{sheet_lines, delivery_lines, refused_delivery}
 use Rattle.demands.proofs.Lines.{any, first_each}

@@ -5,7 +5,7 @@ use Rattle.rules.specs.Ranges.{groups, ticks}
 use Rattle.event.specs.Word.{word_of}
 use Rattle.group.specs.Read.{ReadAnswer}
 use Rattle.group.specs.declared.CountAnswer.{CountAnswer}
-use Rattle.delivery.specs.declared.Delivery.{Delivery}
+use Rattle.delivery.specs.Delivery.{Delivery}
 use Rattle.book.specs.Read.{records_in}
 use Rattle.format.specs.Header.{ticks_in, number_in}
 use Rattle.demands.specs.Gate.{Gate}

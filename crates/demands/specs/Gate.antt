@@ -8,7 +8,7 @@ use Rattle.group.specs.Read.{ReadAnswer}
 use Rattle.group.specs.declared.CountAnswer.{CountAnswer}
 use Rattle.span.specs.declared.SpansAnswer.{SpansAnswer}
 use Rattle.station.specs.declared.MaskAnswer.{MaskAnswer}
-use Rattle.delivery.specs.declared.Delivery.{Delivery}
+use Rattle.delivery.specs.Delivery.{Delivery}
 
 -- a refusal's number, 0 where there is none, and its place; and the group afterwards
 pub record Left (State : Type 0) : Type 0 where

@@ -11,7 +11,7 @@ use Rattle.strip.specs.declared.Side.{Side}
 use Rattle.strip.specs.declared.Side.TheVariants.{Model, Sheet}
 use Rattle.strip.specs.Good.{range, Good}
 use Rattle.strip.specs.History.{history_of}
-use Rattle.delivery.specs.declared.Delivery.TheVariants.{Delivered}
+use Rattle.delivery.specs.Delivery.{Delivered}
 use Rattle.strip.specs.Strips.{strip_of}
 use Rattle.history.specs.WellFormed.{WellFormed}
 use Rattle.demands.specs.Calls.{Run}

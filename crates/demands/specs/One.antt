@@ -10,7 +10,7 @@ use Rattle.loader.specs.Judge.{packed}
 use Rattle.group.specs.Fresh.{fresh_group}
 use Rattle.group.specs.Read.{read_number, grant_of}
 use Rattle.group.specs.declared.Group.{Group}
-use Rattle.delivery.specs.declared.Delivery.TheVariants.{Delivered}
+use Rattle.delivery.specs.Delivery.{Delivered}
 use Rattle.demands.specs.Gate.{Gate}
 use Rattle.demands.specs.Lines.{at, none, plain, Line, unmet, first_met, Met, NoneMet, Refuses}
 use Rattle.demands.specs.Refusals.{fresh_lines, request_lines, close_lines, read_lines, count_lines, mask_lines, judge_lines, bytes_lines, spans_lines, refused_verdict, reader_lines, writer_lines, delivery_lines, refused_delivery}

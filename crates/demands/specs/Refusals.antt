@@ -22,8 +22,8 @@ use Rattle.bits.specs.Granted.{granted}
 use Rattle.store.specs.Entry.{good_entry}
 use Rattle.store.specs.Store.{sheet_count, good_store}
 use Rattle.parts.specs.Delivery.{granted_sheets, delivery_length}
-use Rattle.delivery.specs.declared.Delivery.{Delivery}
-use Rattle.delivery.specs.declared.Delivery.TheVariants as delivery
+use Rattle.delivery.specs.Delivery.{Delivery}
+use Rattle.delivery.specs.Delivery as delivery
 use Rattle.format.specs.Header.{length_of, beyond, total_in, ticks_in, count_in, offset_in, number_in}
 use Rattle.book.specs.Read.{records_in}
 use Rattle.records.specs.Records.{outside, carrier_of, last_of, breaks}

@@ -21,7 +21,7 @@ pub fn ferrulebee_book_write(
 ) -> BookWritten
     ensures { (result ≡ book_written ticks number words.now (length buffer.old)) × (buffer.new ≡ buffer_written ticks number words.now buffer.old) }
 {
-    book::write(ticks, number, words, buffer)
+    book::write(ticks, number, words, buffer).into()
 }
 
 pub fn ferrulebee_tick_part(words: &[u32], tick: u32) -> Part

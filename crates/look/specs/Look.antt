@@ -1,18 +1,19 @@
 -- What the look at the granted sheets finds.
-use Rattle.std.specs.Prelude.{ℕ, List, length}
-use Rattle.parts.specs.Granted.{granted_below}
+use Rattle.std.specs.Prelude.{ℕ, cond, List, ltb, length}
+use Rattle.rules.specs.Ranges.{sheets}
+use Rattle.rules.specs.Refusal.{Told, alone}
+use Rattle.store.specs.Entry.{entry_fault}
 use Rattle.parts.specs.Fault.{first_faulty}
-use Rattle.parts.specs.Delivery.{delivery_length}
-use Rattle.look.specs.declared.Checked.{Checked}
+use Rattle.parts.specs.Delivery.{granted_sheets, delivery_length}
+use Rattle.look.specs.declared.Sums.{Sums}
 
--- up to sheet `stop`: how many granted sheets stand before it, and how long their delivery is
-abbrev pub checked_to : List ℕ → ℕ → List ℕ → ℕ → Checked
-checked_to grants m b stop = record {
-  stop = stop;
-  count = length (granted_below grants m stop);
-  total = delivery_length b (granted_below grants m stop);
-}
+-- the refusal of the first faulty sheet, which it is about, or none
+abbrev pub found : List ℕ → ℕ → List ℕ → Told
+found grants m b =
+    cond (ltb (first_faulty grants m b) sheets)
+    (record { code = entry_fault b (first_faulty grants m b); place = first_faulty grants m b })
+    (alone 0)
 
--- up to the first faulty sheet, or through all of them
-abbrev pub checked : List ℕ → ℕ → List ℕ → Checked
-checked grants m b = checked_to grants m b (first_faulty grants m b)
+-- how many granted sheets there are, and how long their delivery is
+abbrev pub sums_of : List ℕ → ℕ → List ℕ → Sums
+sums_of grants m b = record { count = length (granted_sheets grants m); total = delivery_length b (granted_sheets grants m) }

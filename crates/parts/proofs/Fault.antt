@@ -1,6 +1,6 @@
 -- Which sheet is faulty, from the tests; and where none is, no granted sheet's entry has a fault. Assumes nothing.
 use mathlib.Core.Path.{◌≡◌, sym, ◌∙◌}
-use mathlib.Core.Bool.{Bool, true, false}
+use mathlib.Core.Bool.{Bool, true, false, not}
 use mathlib.Core.List.{List}
 use mathlib.Core.Logic.{⊎_elim}
 use Prim.Native.Nat.{ℕ, ◌<◌}
@@ -37,7 +37,15 @@ module _ (grants : List ℕ) (m : ℕ) (b : List ℕ) (s : ℕ) where
       cc)
       (either (eqb (entry_fault b s) 0))
 
--- the first faulty sheet is a granted one
-pub first_granted : (grants : List ℕ) (m : ℕ) (b : List ℕ) → first_faulty grants m b < sheets → granted grants m (first_faulty grants m b) ≡ true
-unfolding faulty
-first_granted grants m b h = (both _ _ (first_there (faulty grants m b) sheets h)).0
+-- the first faulty sheet is a granted one, and its entry has a fault
+module _ (grants : List ℕ) (m : ℕ) (b : List ℕ) (h : first_faulty grants m b < sheets) where
+  pub first_granted : granted grants m (first_faulty grants m b) ≡ true
+  unfolding faulty
+  first_granted = (both _ _ (first_there (faulty grants m b) sheets h)).0
+
+  pub first_fault : entry_fault b (first_faulty grants m b) ≡ 0 → ⊥
+  unfolding faulty
+  first_fault e =
+      let s = first_faulty grants m b in
+      let so : ◌≡◌ {A = Bool} false true = simp e at (both (granted grants m s) (not (eqb (entry_fault b s) 0)) (first_there (faulty grants m b) sheets h)).1 in
+      cc

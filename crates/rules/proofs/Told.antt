@@ -1,9 +1,10 @@
 -- A refusal's number and place say which refusal it is: what a check tells in numbers is no less than what it answers.
 use Rattle.std.specs.Prelude.{◌≡◌, ℕ, cond, eqb, Result, Ok, Err, ⊤}
-use Rattle.std.proofs.Common.{ap, ap₂, sym, ◌∙◌, refl}
+use Rattle.std.proofs.Common.{ap, ap₂, sym, ◌∙◌, refl, ⊎_elim}
+use Rattle.std.proofs.lemmas.Bool.{cases_eq, ne_eqb}
 use Rattle.rules.specs.declared.refusal.Refusal.{Refusal}
 use Rattle.rules.specs.declared.refusal.Refusal.TheVariants.{BadKind, BadNumber, NoTickLeft, SecondEvent, AlreadyIn, NotIn, BadList, BadGroup, LateNow, LongModel, LongSheet, BadModel, BadSheet, BadLength, BadTotal, BadHeader, BadCount, BadRecord, NotRising, IllFormed, ShortBuffer, ShortList, BadStore, NotInStore, BadEntry, DeliveryTooLong, TooManySpans}
-use Rattle.rules.specs.Refusal.{Told, told, refusal_number, refusal_place}
+use Rattle.rules.specs.Refusal.{Told, told, alone, placed, refusal_number, refusal_place}
 
 -- the refusal of a number and a place
 named : ℕ → ℕ → Result ⊤ Refusal
@@ -86,3 +87,17 @@ unfolding named
 never_zero refusal e =
     let none : Err refusal ≡ Ok tt = sym (named_told (Err refusal)) ∙ ap (λ (n : ℕ). named n (refusal_place refusal)) e in
     cc
+
+-- what a number with its place says: a refusal's is that refusal's, and nothing refused is the number 0
+module _ (place code : ℕ) where
+  pub placed_refused : (refusal : Refusal) → told {A = ⊤} (Err refusal) ≡ placed place code
+      → (code ≡ 0 → ⊥) × (told {A = ⊤} (Err refusal) ≡ record { code = code; place = place })
+  placed_refused refusal e =
+      let some : code ≡ 0 → ⊥ = λ z. never_zero refusal (ap (λ (t : Told). t.code) (simp z at e)) in
+      (some, simp (ne_eqb code 0 some) at e)
+
+  pub placed_none : alone 0 ≡ placed place code → code ≡ 0
+  placed_none e = ⊎_elim
+      (λ z. z)
+      (λ (some : code ≡ 0 → ⊥). sym (ap (λ (t : Told). t.code) (simp (ne_eqb code 0 some) at e)))
+      (cases_eq code 0)

@@ -1,5 +1,5 @@
 -- Each refusal's number, and what it is about; and what a check tells in numbers.
-use Rattle.std.specs.Prelude.{ℕ, Ok, Err}
+use Rattle.std.specs.Prelude.{ℕ, cond, eqb, Ok, Err}
 use Rattle.std.specs.declared.result.Result.{Result}
 use Rattle.rules.specs.Refusals as numbers
 use Rattle.rules.specs.declared.refusal.Refusal.{Refusal}
@@ -76,3 +76,7 @@ told (Err refusal) = record { code = refusal_number refusal; place = refusal_pla
 -- a refusal's number that stands alone, or 0
 abbrev pub alone : ℕ → Told
 alone code = record { code = code; place = 0 }
+
+-- a number with the place that it is about; 0 and 0 where the number is 0
+abbrev pub placed : ℕ → ℕ → Told
+placed place code = cond (eqb code 0) (alone 0) (record { code = code; place = place })

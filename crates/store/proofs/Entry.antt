@@ -6,7 +6,7 @@ use mathlib.Core.Logic.{⊎_elim}
 use Prim.Native.Nat.{ℕ, ◌+◌, ◌≤◌, ◌<◌}
 use native.Mathlib.Omega.{arith}
 use lib.Dec.{ltb}
-use borrow.Author.Tests.{lt-ltb, le-ltb, le-leb, lt-leb, ltb-true, leb-true}
+use borrow.Author.Tests.{le-ltb, ltb-true, leb-true}
 use Rattle.base.proofs.Truth.{either, both}
 use Rattle.rules.specs.Refusals.{not_in_store, bad_entry}
 use Rattle.store.specs.Store.{total_length, sheet_count, bytes_start}
@@ -16,18 +16,6 @@ module _ (b : List ℕ) (s : ℕ) where
   pub fault_missing : sheet_count b ≤ s → entry_fault b s ≡ not_in_store
   unfolding entry_fault
   fault_missing h = simp (le-ltb _ _ h)
-
-  pub fault_early : s < sheet_count b → offset b s < bytes_start b → entry_fault b s ≡ bad_entry
-  unfolding entry_fault good_entry
-  fault_early h e = simp (lt-ltb _ _ h, lt-leb _ _ e)
-
-  pub fault_late : s < sheet_count b → bytes_start b ≤ offset b s → total_length b < offset b s + sheet_length b s → entry_fault b s ≡ bad_entry
-  unfolding entry_fault good_entry
-  fault_late h e l = simp (lt-ltb _ _ h, le-leb _ _ e, lt-leb _ _ l)
-
-  pub fault_none : s < sheet_count b → bytes_start b ≤ offset b s → offset b s + sheet_length b s ≤ total_length b → entry_fault b s ≡ 0
-  unfolding entry_fault good_entry
-  fault_none h e l = simp (lt-ltb _ _ h, le-leb _ _ e, le-leb _ _ l)
 
   -- an entry without fault: its bytes lie in the store, behind the pairs
   pub record Sound : Type 0 where

@@ -2,9 +2,13 @@
 #![tactic(auto)]
 
 ghost use Rattle.std.specs.Prelude.{◌≡◌, true, ◌+◌, ◌*◌, ◌≤◌, ◌<◌, length};
+ghost use Rattle.rules.specs.Refusal.{told, placed};
 ghost use Rattle.store.specs.Store.{good_store, sheet_count};
 ghost use Rattle.store.specs.Entry.{offset, sheet_length, entry_fault};
 
+use rules::refusal::Refusal;
+
+#[tactic(auto, unfolding(crate::specs::Store::good_store))]
 pub fn good_store(store: &[u8]) -> bool
     ensures { result ≡ good_store store.now }
 {
@@ -41,24 +45,24 @@ pub fn length_of(store: &[u8], sheet: u32) -> u64
     wire::read32(store, 12 + 8 * (sheet as usize)) as u64
 }
 
-// 0, or the refusal that the sheet's entry calls for.
-#[tactic(auto, using(crate::proofs::Store::good))]
-pub fn entry_fault(store: &[u8], sheet: u32) -> u32
+// The refusal that the sheet's entry calls for, if any.
+#[tactic(auto, using(crate::proofs::Store::good), unfolding(crate::specs::Entry::entry_fault, crate::specs::Entry::good_entry))]
+pub fn entry_fault(store: &[u8], sheet: u32) -> Result<(), Refusal>
     requires { good_store store.now ≡ true }
-    ensures { result ≡ entry_fault store.now sheet }
+    ensures { told result ≡ placed sheet (entry_fault store.now sheet) }
 {
     let n = sheet_count(store);
     if sheet >= n {
-        return rules::NOT_IN_STORE;
+        return Err(Refusal::NotInStore(sheet));
     }
     let offset = offset_of(store, sheet);
     let length = length_of(store, sheet);
     let start = 8 + 8 * (n as u64);
     if offset < start {
-        return rules::BAD_ENTRY;
+        return Err(Refusal::BadEntry(sheet));
     }
     if (store.len() as u64) < offset + length {
-        return rules::BAD_ENTRY;
+        return Err(Refusal::BadEntry(sheet));
     }
-    0
+    Ok(())
 }

@@ -15,8 +15,7 @@ use Rattle.parts.specs.Delivery.{parts, delivery_length, delivery_of, granted_sh
 use Rattle.parts.specs.Fault.{faulty, first_faulty}
 use Rattle.parts.specs.Granted.{granted_below}
 use Rattle.delivery.specs.Answer.{answer, written, buffer_after}
-use Rattle.delivery.specs.declared.Delivery.{Delivery}
-use Rattle.delivery.specs.declared.Delivery.TheVariants.{Delivered}
+use Rattle.delivery.specs.Delivery.{Delivery, Delivered}
 use Rattle.delivery.proofs.Answer.{answer_delivered}
 
 abbrev pub nobody : List ℕ

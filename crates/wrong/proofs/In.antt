@@ -10,7 +10,7 @@ use Rattle.formula.specs.declared.Verdict.{Verdict}
 use Rattle.group.specs.Read.{ReadAnswer}
 use Rattle.group.specs.declared.Group.{Group}
 use Rattle.station.specs.declared.MaskAnswer.{MaskAnswer}
-use Rattle.delivery.specs.declared.Delivery.{Delivery}
+use Rattle.delivery.specs.Delivery.{Delivery}
 use Rattle.strip.specs.declared.Side.{Side}
 use Rattle.strip.specs.Good.{range}
 use Rattle.strip.specs.Strips.{strip_of}

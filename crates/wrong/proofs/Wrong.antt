@@ -31,8 +31,7 @@ use Rattle.group.specs.Read.{Granted, Denied}
 use Rattle.group.specs.Request.{request_answer, request_refusal, marked_group}
 use Rattle.group.specs.declared.Group.{Group}
 use Rattle.delivery.specs.Answer.{buffer_after}
-use Rattle.delivery.specs.declared.Delivery.{Delivery}
-use Rattle.delivery.specs.declared.Delivery.TheVariants.{Delivered, Refused}
+use Rattle.delivery.specs.Delivery.{Delivery, Delivered, Refused}
 use Rattle.wire.specs.Word.{le32, bytes32}
 use Rattle.group.proofs.Fresh.{fresh_granted}
 use Rattle.group.proofs.Request.{bit_marked, request_keeps}

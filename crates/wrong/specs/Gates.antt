@@ -22,8 +22,8 @@ use Rattle.group.specs.Read.{ReadAnswer, Granted, Denied, Refused}
 use Rattle.group.specs.Request.{marked_group}
 use Rattle.group.specs.declared.Group.{Group}
 use Rattle.station.specs.declared.MaskAnswer.{MaskAnswer}
-use Rattle.delivery.specs.declared.Delivery.{Delivery}
-use Rattle.delivery.specs.declared.Delivery.TheVariants as delivery
+use Rattle.delivery.specs.Delivery.{Delivery}
+use Rattle.delivery.specs.Delivery as delivery
 use Rattle.demands.specs.Gate.{Left, Gate}
 use Rattle.demands.specs.Ours.{ours}
 

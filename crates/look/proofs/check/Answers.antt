@@ -1,55 +1,72 @@
-use mathlib.Core.Path.{◌≡◌, sym, ap, ap₂, ◌∙◌}
+use mathlib.Core.Path.{◌≡◌, sym, ap₂, ◌∙◌}
 use mathlib.Core.Bool.{true}
 use mathlib.Core.List.{List}
-use Prim.Native.Nat.{ℕ}
+use Prim.Native.Nat.{ℕ, ◌<◌}
 use native.Mathlib.Omega.{arith}
-use borrow.Author.Rules.{rules}
+use borrow.Author.Tests.{lt-ltb}
+use Rattle.std.specs.Prelude.{Err, ⊤}
+use Rattle.std.proofs.lemmas.Result.{err_from_is_err_and}
+use Rattle.rules.specs.Ranges.{sheets}
+use Rattle.rules.specs.Refusal.{told, placed}
+use Rattle.rules.specs.declared.refusal.Refusal.{Refusal}
+use Rattle.rules.proofs.Told.{placed_refused, placed_none}
 use Rattle.bits.specs.Granted.{granted}
+use Rattle.store.specs.Entry.{entry_fault}
 use Rattle.store.proofs.Store.{good}
 use Rattle.store.proofs.Entry.{sound}
 use Rattle.parts.specs.Fault.{first_faulty}
 use Rattle.parts.proofs.Sums.{Sums, sums_none, sums_out, sums_in, sums_stop, sums_end}
-use Rattle.look.specs.declared.Checked.{Checked}
-use Rattle.look.specs.Look.{checked_to, checked}
+use Rattle.look.specs.Look.{found}
 use Rattle.look.proofs.check.Goals as goal
-use Rattle.look.proofs.check.Goals.{Else-not-is_granted}
+use Rattle.look.proofs.check.Goals.{Else-not-is_granted, In_ok-entry_fault}
 
--- where the look ends, the sums are the answer
-stopped : (grants : List ℕ) (m : ℕ) (b : List ℕ) (s count total : ℕ) → Sums grants m b s count total → first_faulty grants m b ≡ s
-    → ◌≡◌ {A = Checked} (record { stop = s; count = count; total = total }) (checked grants m b)
-stopped grants m b s count total so e =
-    ap₂ (λ (x y : ℕ). record { stop = s; count = x; total = y }) so.counted so.summed ∙ ap (checked_to grants m b) (sym e)
+-- the first fault is what the look finds
+stopped : (grants : List ℕ) (m : ℕ) (b : List ℕ) (s count total : ℕ) → Sums grants m b s count total → s < sheets → granted grants m s ≡ true
+    → (refusal : Refusal) → told {A = ⊤} (Err refusal) ≡ placed s (entry_fault b s) → told {A = ⊤} (Err refusal) ≡ found grants m b
+stopped grants m b s count total so h g refusal e =
+    let p = placed_refused s (entry_fault b s) refusal e in
+    let first : first_faulty grants m b ≡ s = sums_stop grants m b s count total so h g p.0 in
+    p.1 ∙ simp (first, lt-ltb _ _ h)
 
--- past the test the sheet is granted
+-- past the tests the sheet is granted, and its entry has no fault
 yes : (c : Else-not-is_granted) → granted c.args.grants.now c.args.model c.loop-sheet.sheet ≡ true
 yes c = sym c.is_granted.ensures ∙ c.if-not-is_granted.false
 
+free : (c : In_ok-entry_fault) → entry_fault c.args.store.now c.loop-sheet.sheet ≡ 0
+free c = placed_none c.loop-sheet.sheet _ (c.in_ok-entry_fault.ensures {u = tt})
+
 pub loop-sheet-init : goal.loop-sheet-init
-loop-sheet-init c = (search rules, sums_none _ _ _)
+loop-sheet-init c = sums_none _ _ _
 
 pub loop-sheet-preserved-then-not-is_granted : goal.loop-sheet-preserved-then-not-is_granted
-loop-sheet-preserved-then-not-is_granted c = (search rules, sums_out _ _ _ _ _ _ c.loop-sheet.invariant.1 (sym c.is_granted.ensures ∙ c.if-not-is_granted.true))
+loop-sheet-preserved-then-not-is_granted c = sums_out _ _ _ _ _ _ c.loop-sheet.invariant (sym c.is_granted.ensures ∙ c.if-not-is_granted.true)
 
-pub returns-then-entry_fault-ne0 : goal.returns-then-entry_fault-ne0
-returns-then-entry_fault-ne0 c =
-    let so = c.loop-sheet.invariant.1 in
-    let e = sums_stop _ _ _ _ _ _ so c.loop-sheet-test.true (yes (goal.at.returns-then-entry_fault-ne0 c).Else-not-is_granted) (λ z. c.if-entry_fault-ne0.true (c.entry_fault.ensures ∙ z)) in
-    (stopped _ _ _ _ _ _ so e, omega (arith, so.short))
+pub returns-in_err-entry_fault : goal.returns-in_err-entry_fault
+returns-in_err-entry_fault c =
+    let p = err_from_is_err_and c.from_residual.result c.from_residual.ensures.1 in
+    rw (p.1, p.2)
+    (record {
+      refused = stopped _ _ _ _ _ _ c.loop-sheet.invariant c.loop-sheet-test.true (yes (goal.at.returns-in_err-entry_fault c).Else-not-is_granted) _ (c.in_err-entry_fault.ensures {u = tt});
+      summed = tt;
+    })
 
 pub length_of-requires : goal.length_of-requires
 length_of-requires c =
     let g = good c.args.store.now c.requires.1 in
-    let entry = sound _ _ (sym c.entry_fault.ensures ∙ c.if-entry_fault-ne0.false) in
+    let entry = sound _ _ (free (goal.at.length_of-requires c).In_ok-entry_fault) in
     omega (arith, entry.inside, g.table)
 
 pub loop-sheet-preserved : goal.loop-sheet-preserved
-loop-sheet-preserved c = (
-  search rules,
-  rw c.length_of.ensures.0 (sums_in _ _ _ _ _ _ c.loop-sheet.invariant.1 (good c.args.store.now c.requires.1) (yes (goal.at.loop-sheet-preserved c).Else-not-is_granted) (sym c.entry_fault.ensures ∙ c.if-entry_fault-ne0.false)),
-)
+loop-sheet-preserved c =
+    rw c.length_of.ensures.0
+    (sums_in _ _ _ _ _ _ c.loop-sheet.invariant (good c.args.store.now c.requires.1) (yes (goal.at.loop-sheet-preserved c).Else-not-is_granted) (free (goal.at.loop-sheet-preserved c).In_ok-entry_fault))
 
 pub returns : goal.returns
 returns c =
-    let so = c.loop-sheet.invariant.1 in
-    let all : c.loop-sheet.sheet ≡ 256 = omega arith in
-    (ap (λ (n : ℕ). record { stop = n; count = c.loop-sheet.count; total = c.loop-sheet.total }) (sym all) ∙ stopped _ _ _ _ _ _ so (sums_end _ _ _ _ _ _ so all), omega (arith, so.short))
+    let so = c.loop-sheet.invariant in
+    let all : c.loop-sheet.sheet ≡ sheets = omega arith in
+    let last = sums_end _ _ _ _ _ _ so all ∙ all in
+    record {
+      refused = simp last;
+      summed = (rw (← all) (ap₂ (λ (x y : ℕ). record { count = x; total = y }) so.counted so.summed), omega (arith, so.short));
+    }

@@ -1,39 +1,51 @@
 -- `delivery::granted::deliver` meets its contract: each return is one case of the answer, in the definition's order. Assumes nothing.
-use mathlib.Core.Path.{◌≡◌, sym, ap, ap₂, ◌∙◌}
+use mathlib.Core.Path.{◌≡◌, sym, ap, ◌∙◌}
 use mathlib.Core.Bool.{true}
 use mathlib.Core.List.{List}
+use mathlib.Core.Logic.{⊎_elim}
 use Prim.Native.Nat.{ℕ, ◌≤◌, ◌<◌}
 use native.Mathlib.Omega.{arith}
+use borrow.Author.Tests.{lt-ltb, le-ltb}
 use lib.ListN.{length}
+use Rattle.std.specs.Prelude.{Err, ⊤}
+use Rattle.std.proofs.lemmas.Bool.{cases_lt}
+use Rattle.std.proofs.lemmas.Result.{err_from_is_err_and}
 use Rattle.base.proofs.First.{first_le}
 use Rattle.rules.specs.Ranges.{models, sheets}
+use Rattle.rules.specs.Refusal.{Told, told, alone}
+use Rattle.rules.specs.declared.refusal.Refusal.{Refusal}
+use Rattle.rules.proofs.Told.{never_zero}
 use Rattle.store.specs.Store.{good_store}
 use Rattle.store.specs.Entry.{entry_fault}
-use Rattle.parts.specs.Granted.{granted_below}
 use Rattle.parts.specs.Fault.{faulty, first_faulty}
+use Rattle.parts.proofs.Fault.{first_fault}
 use Rattle.parts.specs.Delivery.{granted_sheets, delivery_length}
-use Rattle.look.specs.declared.Checked.{Checked}
-use Rattle.delivery.specs.declared.Delivery.TheVariants.{Delivered, Refused}
-use Rattle.look.specs.Look.{checked}
+use Rattle.look.specs.declared.Sums.{Sums}
+use Rattle.look.specs.Look.{found}
+use Rattle.delivery.specs.Answer.{answer}
+use Rattle.delivery.specs.Delivery.{Delivered, Refused, delivery_told}
 use Rattle.delivery.proofs.Answer.{promised, answer_number, answer_store, answer_sheet, answer_long, answer_delivered}
 use Rattle.delivery.proofs.granted.deliver.Goals as goal
-use Rattle.delivery.proofs.granted.deliver.Goals.{Else-not-good_store, Else-model-ge-MODELS}
+use Rattle.delivery.proofs.granted.deliver.Goals.{Else-not-good_store, Else-model-ge-MODELS, In_ok-seen}
 
--- what the check's sums are where it went through all sheets
-record Through (grants : List ℕ) (m : ℕ) (b : List ℕ) (seen : Checked) : Type 0 where
-  sound : first_faulty grants m b ≡ sheets
-  counted : seen.count ≡ length (granted_sheets grants m)
-  summed : seen.total ≡ delivery_length b (granted_sheets grants m)
+-- where the look finds nothing, no granted sheet is faulty
+through : (grants : List ℕ) (m : ℕ) (b : List ℕ) → alone 0 ≡ found grants m b → first_faulty grants m b ≡ sheets
+through grants m b e = ⊎_elim
+    (λ (h : first_faulty grants m b < sheets).
+    let fault : entry_fault b (first_faulty grants m b) ≡ 0 = sym (ap (λ (t : Told). t.code) (simp (lt-ltb _ _ h) at e)) in
+    absurd (first_fault grants m b h fault))
+    (λ (h : sheets ≤ first_faulty grants m b). omega (arith, first_le (faulty grants m b) sheets))
+    (cases_lt (first_faulty grants m b) sheets)
 
-through : (grants : List ℕ) (m : ℕ) (b : List ℕ) (seen : Checked) → seen ≡ checked grants m b → sheets ≤ seen.stop → Through grants m b seen
-through grants m b seen e h =
-    let stop = ap (λ (r : Checked). r.stop) e in
-    let all : first_faulty grants m b ≡ sheets = omega (arith, first_le (faulty grants m b) sheets) in
-    record {
-      sound = all;
-      counted = ap (λ (r : Checked). r.count) e ∙ ap (λ (k : ℕ). length (granted_below grants m k)) all;
-      summed = ap (λ (r : Checked). r.total) e ∙ ap (λ (k : ℕ). delivery_length b (granted_below grants m k)) all;
-    }
+-- and where it finds a refusal, that one is the answer
+refused : (grants : List ℕ) (m : ℕ) (b : List ℕ) (room : ℕ) (refusal : Refusal) → m < models → good_store b ≡ true → told {A = ⊤} (Err refusal) ≡ found grants m b
+    → answer grants m b room ≡ delivery_told (Err refusal)
+refused grants m b room refusal known taken e = ⊎_elim
+    (λ (h : first_faulty grants m b < sheets).
+    let same : told {A = ⊤} (Err refusal) ≡ record { code = entry_fault b (first_faulty grants m b); place = first_faulty grants m b } = simp (lt-ltb _ _ h) at e in
+    answer_sheet grants m b room known taken h ∙ ap (λ (t : Told). Refused t.code t.place) (sym same))
+    (λ (h : sheets ≤ first_faulty grants m b). absurd (never_zero refusal (ap (λ (t : Told). t.code) (simp (le-ltb _ _ h) at e))))
+    (cases_lt (first_faulty grants m b) sheets)
 
 -- past the first test the model is one
 known : (c : Else-model-ge-MODELS) → c.args.model < models
@@ -53,35 +65,47 @@ returns-then-not-good_store c =
     let both = promised _ _ _ c.args.out.now _ (answer_store _ c.args.model _ _ (known (goal.at.returns-then-not-good_store c).Else-model-ge-MODELS) (sym c.good_store.ensures ∙ c.if-not-good_store.true)) in
     record { answered = both.0; left = both.1 }
 
-pub check-seen-requires : goal.check-seen-requires
-check-seen-requires c = ((known (goal.at.check-seen-requires c).Else-model-ge-MODELS), (taken (goal.at.check-seen-requires c).Else-not-good_store))
+pub check-requires : goal.check-requires
+check-requires c = ((known (goal.at.check-requires c).Else-model-ge-MODELS), (taken (goal.at.check-requires c).Else-not-good_store))
 
-pub entry_fault-requires : goal.entry_fault-requires
-entry_fault-requires c = (taken (goal.at.entry_fault-requires c).Else-not-good_store)
+-- past the look no granted sheet is faulty, and the sums are those of the granted sheets
+record Through (c : In_ok-seen) : Type 0 where
+  sound : first_faulty c.args.grants.now c.args.model c.args.store.now ≡ sheets
+  counted : c.in_ok-seen.seen.count ≡ length (granted_sheets c.args.grants.now c.args.model)
+  summed : c.in_ok-seen.seen.total ≡ delivery_length c.args.store.now (granted_sheets c.args.grants.now c.args.model)
 
-pub returns-then-stop-lt-SHEETS : goal.returns-then-stop-lt-SHEETS
-returns-then-stop-lt-SHEETS c =
-    let stop = ap (λ (r : Checked). r.stop) c.check-seen.ensures.0 in
-    let both = promised _ _ _ c.args.out.now _
-    (answer_sheet c.args.grants.now c.args.model c.args.store.now (length c.args.out.now) (known (goal.at.returns-then-stop-lt-SHEETS c).Else-model-ge-MODELS) (taken (goal.at.returns-then-stop-lt-SHEETS c).Else-not-good_store) (omega (arith, stop, c.if-stop-lt-SHEETS.true))
-    ∙ ap₂ Refused (sym (c.entry_fault.ensures ∙ ap (entry_fault c.args.store.now) stop)) (sym stop)) in
-    record { answered = both.0; left = both.1 }
+past : (c : In_ok-seen) → Through c
+past c =
+    let all = c.in_ok-seen.ensures {u = tt} in
+    let sums = all.summed.0 in
+    record { sound = through c.args.grants.now c.args.model c.args.store.now all.refused; counted = ap (λ (x : Sums). x.count) sums; summed = ap (λ (x : Sums). x.total) sums }
+
+pub returns-in_err-seen : goal.returns-in_err-seen
+returns-in_err-seen c =
+    let p = err_from_is_err_and c.from_residual.result c.from_residual.ensures.1 in
+    let before = goal.at.returns-in_err-seen c in
+    let both = promised _ _ _ c.args.out.now _ (refused _ _ _ _ _ (known before.Else-model-ge-MODELS) (taken before.Else-not-good_store) (c.in_err-seen.ensures {u = tt}).refused) in
+    rw (p.1, p.2) (record { answered = both.0; left = both.1 })
 
 pub returns-then-out-total : goal.returns-then-out-total
 returns-then-out-total c =
-    let all = through _ _ _ _ c.check-seen.ensures.0 c.if-stop-lt-SHEETS.false in
-    let both = promised _ _ _ c.args.out.now _ (answer_long c.args.grants.now c.args.model c.args.store.now (length c.args.out.now) (known (goal.at.returns-then-out-total c).Else-model-ge-MODELS) (taken (goal.at.returns-then-out-total c).Else-not-good_store) (omega (arith, all.sound)) (omega (arith, all.summed, c.if-out-total.true))) in
+    let before = goal.at.returns-then-out-total c in
+    let all = past before.In_ok-seen in
+    let both = promised _ _ _ c.args.out.now _
+    (answer_long c.args.grants.now c.args.model c.args.store.now (length c.args.out.now) (known before.Else-model-ge-MODELS) (taken before.Else-not-good_store) (omega (arith, all.sound)) (omega (arith, all.summed, c.if-out-total.true))) in
     record { answered = both.0; left = both.1 }
 
 pub write_delivery-requires : goal.write_delivery-requires
 write_delivery-requires c =
-    let all = through _ _ _ _ c.check-seen.ensures.0 c.if-stop-lt-SHEETS.false in
-    (record { known = (known (goal.at.write_delivery-requires c).Else-model-ge-MODELS); taken = (taken (goal.at.write_delivery-requires c).Else-not-good_store); sound = all.sound }, all.counted, all.summed, c.if-out-total.false)
+    let before = goal.at.write_delivery-requires c in
+    let all = past before.In_ok-seen in
+    (record { known = known before.Else-model-ge-MODELS; taken = taken before.Else-not-good_store; sound = all.sound }, all.counted, all.summed, c.if-out-total.false)
 
 pub returns : goal.returns
 returns c =
-    let all = through _ _ _ _ c.check-seen.ensures.0 c.if-stop-lt-SHEETS.false in
+    let before = goal.at.returns c in
+    let all = past before.In_ok-seen in
     let fits = c.if-out-total.false in
-    let done = promised c.args.grants.now c.args.model c.args.store.now c.args.out.now (Delivered c.check-seen.result.total)
-    (answer_delivered c.args.grants.now c.args.model c.args.store.now (length c.args.out.now) (known (goal.at.returns c).Else-model-ge-MODELS) (taken (goal.at.returns c).Else-not-good_store) (omega (arith, all.sound)) (omega (arith, all.summed, fits)) ∙ ap Delivered (sym all.summed)) in
+    let done = promised c.args.grants.now c.args.model c.args.store.now c.args.out.now (Delivered c.in_ok-seen.seen.total)
+    (answer_delivered c.args.grants.now c.args.model c.args.store.now (length c.args.out.now) (known before.Else-model-ge-MODELS) (taken before.Else-not-good_store) (omega (arith, all.sound)) (omega (arith, all.summed, fits)) ∙ ap Delivered (sym all.summed)) in
     record { answered = done.0; left = c.write_delivery.ensures ∙ done.1 }
