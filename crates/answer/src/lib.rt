@@ -1,9 +1,10 @@
 // The keeper's answers, each a line.
 #![tactic(auto)]
 
-pub mod out;
-
 use ask::reason::Reason;
+use lines::page::Page;
+use lines::refused::Refused;
+use rules::refusal::Refusal;
 use std::fmt;
 
 // What a command is answered where nothing fails.
@@ -60,50 +61,41 @@ impl fmt::Display for Answer {
     }
 }
 
-// A refusal's number, and the place or the sheet that it names.
-#[derive(Clone, Copy)]
-pub struct Refusal {
-    number: u32,
-    place: Option<u32>,
-}
-
-impl Refusal {
-    // The place is what stands beside the number in a call's answer; some refusals name it.
-    pub fn new(number: u32, place: u32) -> Refusal {
-        let names = matches!(
-            number,
-            rules::BAD_RECORD
-                | rules::NOT_RISING
-                | rules::ILL_FORMED
-                | rules::NOT_IN_STORE
-                | rules::BAD_ENTRY
-        );
-        Refusal {
-            number,
-            place: names.then_some(place),
-        }
-    }
-}
-
-impl fmt::Display for Refusal {
-    fn fmt<W: fmt::Write>(&self, f: &mut fmt::Formatter<W>) -> fmt::Result {
-        let number = self.number;
-        match self.place {
-            Some(place) => write!(f, "refused {number} at {place}"),
-            None => write!(f, "refused {number}"),
-        }
-    }
-}
-
 // Why a command is not done: its line can't be taken, it is refused, or its file can't be opened, read or written.
 #[derive(Clone, Copy)]
 pub enum Failed<'a> {
     What(Reason),
-    Refused(Refusal),
+    Refused(Refused),
     CannotOpen(&'a [u8]),
 }
 
-const USAGE: &str = "keeper: one command a line on standard input, one answer a line\n";
+// A call's own refusal.
+impl From<Refusal> for Failed<'_> {
+    fn from(refusal: Refusal) -> Self {
+        Failed::Refused(refusal.into())
+    }
+}
+
+// The line that a command is answered.
+pub fn put<P: Print>(page: &mut Page<P>, answer: Result<Answer, Failed<'_>>) {
+    match answer {
+        Ok(answer) => page.line(answer),
+        Err(Failed::What(reason)) => page.line(format_args!("what? {reason}")),
+        Err(Failed::Refused(refused)) => page.line(refused),
+        // a file's name need not be text
+        Err(Failed::CannotOpen(file)) => {
+            page.bytes(b"can't open ");
+            page.bytes(file);
+            page.line("");
+        }
+    }
+}
+
+// What is printed where the program is started with an argument.
+pub fn usage<P: Print>(page: &mut Page<P>) {
+    page.line("keeper: one command a line on standard input, one answer a line");
+    page.line(Answer::Help);
+}
 
 const HELP: &str = "fresh G             start again with a fresh group G (0..15)
 SJ N   LJ N         model N (0..63) joins: strict, liberal

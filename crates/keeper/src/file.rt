@@ -1,6 +1,5 @@
 // Files by name. A name that is no UTF-8 names no file.
-ghost use Rattle.std.specs.Prelude.{◌≤◌, length};
-
+use lines::read_full;
 use std::io::{ErrorKind, Read};
 use std::rt::Files;
 use std::{fs, io, str};
@@ -9,29 +8,13 @@ fn text(name: &[u8]) -> io::Result<&str> {
     Ok(str::from_utf8(name).map_err(|_| ErrorKind::InvalidInput)?)
 }
 
-// Reads until the bytes are full, the input ends or a read fails, and answers how many came.
-// kept: the library fills a slice whole (`read_exact`) or takes the heap (`read_to_end`).
-fn read_full<R: Read>(reader: &mut R, bytes: &mut [u8]) -> usize
-    ensures { result ≤ length bytes.new }
-{
-    let mut done = 0;
-    while done < bytes.len() {
-        let came = reader.read(&mut bytes[done..]).unwrap_or(0);
-        if came == 0 {
-            break;
-        }
-        done += came;
-    }
-    done
-}
-
 // Reads a file to the front of the bytes, as far as they go, and answers what came.
 pub fn read<'b, F: Files>(rt: &F, name: &[u8], bytes: &'b mut [u8]) -> io::Result<&'b [u8]> {
     let mut file = fs::open(rt, text(name)?)?;
     let came = read_full(&mut file, bytes);
     // a read that failed looks like the file's end, but one more fails again: a folder's, a broken disk's
     file.read(&mut [0; 1])?;
-    Ok(&bytes[..came])
+    Ok(came)
 }
 
 // Makes or replaces a file with these bytes.

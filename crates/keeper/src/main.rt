@@ -4,12 +4,12 @@
 mod file;
 mod keep;
 
-use answer::out::Out;
 use answer::{Answer, Failed};
 use ask::Asked;
 use ask::input::Input;
 use group::Group;
 use keep::Keeper;
+use lines::page::Page;
 use std::env::{Env, FillError};
 use std::io::Read;
 use std::rt::Files;
@@ -17,28 +17,27 @@ use std::rt::Files;
 // Answers every line up to the end of the input.
 // A proved loop has to end, and nothing says that an input does: the loop has a number of turns that no run uses up.
 // kept: the group stays in the last call's answer, and that in this one place. It goes by value, 2,288 bytes, and every other place is a copy more for each request: 1,000,000 commands take 107 ms so, 147 ms with the group in `Keeper` and 135 ms where `load` is lent it from here.
-fn converse<H: Files + Print, R: Read>(rt: &H, reader: &mut R, out: &mut Out) {
+fn converse<H: Files + Print, R: Read>(rt: &H, reader: &mut R, page: &mut Page<H>) {
     let mut input = Input::new();
     let mut keeper = Keeper::new();
     let mut last = Group::fresh(0);
     for _ in 0..u64::MAX {
         let Some(line) = input.line() else {
             // what was answered is written out before the program waits
-            out.flush(rt);
+            page.flush();
             if !input.more(reader) {
                 return;
             }
             continue;
         };
-        out.make_room(rt);
         let Some(asked) = ask::hear(line) else {
             continue;
         };
         let answer = match asked {
             Err(reason) => Err(Failed::What(reason)),
             Ok(Asked::Help) => Ok(Answer::Help),
-            Ok(Asked::Read { model, sheet }) => keep::read(last.group, model, sheet),
-            Ok(Asked::Models { sheet }) => keep::models(last.group, sheet),
+            Ok(Asked::Read { model, sheet }) => keep::read(&last.group, model, sheet),
+            Ok(Asked::Models { sheet }) => keep::models(&last.group, sheet),
             Ok(Asked::Request { kind, number }) => {
                 last = request::request(last.group, kind, number);
                 let event = kept::word(last.group.closed, kind, number);
@@ -64,7 +63,7 @@ fn converse<H: Files + Print, R: Read>(rt: &H, reader: &mut R, out: &mut Out) {
                 rt, last.group, model, room, file,
             ),
         };
-        out.answer(answer);
+        answer::put(page, answer);
     }
 }
 
@@ -75,11 +74,11 @@ fn has_argument<E: Env>(rt: &E) -> bool {
 }
 
 fn main(rt: HostRuntime) {
-    let mut out = Out::new();
+    let mut page = Page::new(&rt);
     if has_argument(&rt) {
-        out.usage();
-        out.flush(&rt);
-        return;
+        answer::usage(&mut page);
+    } else {
+        converse(&rt, &mut rt.stdin(), &mut page);
     }
-    converse(&rt, &mut rt.stdin(), &mut out);
+    page.flush();
 }

@@ -2,7 +2,7 @@
 #![tactic(auto)]
 
 use formula::{Moment, Verdict};
-use report::page::Page;
+use lines::page::Page;
 use report::strips::Strips;
 use report::{Book, read_book};
 use std::io::Read;

@@ -4,7 +4,7 @@
 mod ask;
 
 use ask::Asked;
-use report::page::Page;
+use lines::page::Page;
 use report::strips::Strips;
 use report::{Book, read_book};
 use std::io::Read;

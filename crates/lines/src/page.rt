@@ -1,11 +1,12 @@
-// A page of output: lines gather in a buffer, which is written out when it is nearly full and at the end.
+// A page of output: lines gather in memory of a fixed size, which is written out when it is nearly full, before a program waits, and at the end.
+// kept: a buffer of its own, since no heap is a rule of the project, as the library's `BufWriter` takes.
 use std::fmt;
 use std::fmt::{Display, Write};
 
 const OUT: usize = 65536;
 
 // No line is longer.
-const LINE: usize = 64;
+const LINE: usize = 2048;
 
 #[derive(Drop)]
 pub struct Page<'a, P> {
@@ -19,8 +20,15 @@ pub struct Page<'a, P> {
 
 impl<P> Write for Page<'_, P> {
     fn write_str(&mut self, s: &str) -> fmt::Result {
-        self.at = text::add(&mut self.buffer, self.at, s.as_bytes());
+        self.bytes(s.as_bytes());
         Ok(())
+    }
+}
+
+impl<P> Page<'_, P> {
+    // Adds bytes that need not be text; what doesn't fit is left out whole.
+    pub fn bytes(&mut self, bytes: &[u8]) {
+        self.at = text::add(&mut self.buffer, self.at, bytes);
     }
 }
 

@@ -1,0 +1,20 @@
+// What the programs share: bytes until the input ends, a page of lines, and the line of a refusal.
+#![tactic(auto)]
+
+pub mod page;
+pub mod refused;
+
+use std::io::Read;
+
+// Reads until the buffer is full, the input ends or a read fails, and answers the bytes that came.
+// kept: no heap is a rule of the project: of the library's methods only `read_to_end`, into a `Vec`, keeps what came before a failed read.
+pub fn read_full<'a, R: Read>(reader: &mut R, buffer: &'a mut [u8]) -> &'a [u8] {
+    let mut done = 0;
+    while done < buffer.len() {
+        let Ok(came @ 1..) = reader.read(&mut buffer[done..]) else {
+            break;
+        };
+        done += came;
+    }
+    &buffer[..done]
+}
