@@ -1,6 +1,6 @@
 -- A refusal's number and place say which refusal it is: what a check tells in numbers is no less than what it answers.
-use Rattle.std.specs.Prelude.{◌≡◌, ℕ, cond, eqb, Result, Ok, Err, ⊤}
-use Rattle.std.proofs.Common.{ap, ap₂, sym, ◌∙◌, refl}
+use Rattle.std.specs.Prelude.{◌≡◌, ◌<◌, ℕ, zero, suc, cond, eqb, Result, Ok, Err, ⊤}
+use Rattle.std.proofs.Common.{ap, ap₂, sym, ◌∙◌, refl, arith}
 use Rattle.rules.specs.declared.refusal.Refusal.{Refusal}
 use Rattle.rules.specs.declared.refusal.Refusal.TheVariants.{BadKind, BadNumber, NoTickLeft, SecondEvent, AlreadyIn, NotIn, BadList, BadGroup, LateNow, LongModel, LongSheet, BadModel, BadSheet, BadLength, BadTotal, BadHeader, BadCount, BadRecord, NotRising, IllFormed, ShortBuffer, ShortList, BadStore, NotInStore, BadEntry, DeliveryTooLong, TooManySpans}
 use Rattle.rules.specs.Refusal.{Told, told, refusal_number, refusal_place}
@@ -79,3 +79,30 @@ refused (Err refusal) = refusal
 pub refusal_once : (r s : Refusal) → refusal_number r ≡ refusal_number s → refusal_place r ≡ refusal_place s → r ≡ s
 unfolding refused
 refusal_once r s n p = ap refused (told_once {r = Err r} {s = Err s} (ap₂ (λ (code place : ℕ). record { code = code; place = place }) n p))
+
+-- ---- a refusal's number without its place
+
+-- none is 0
+pub refusal_some : (r : Refusal) → refusal_number r ≡ 0 → ⊥
+unfolding named
+refusal_some r e = let ok : Ok tt ≡ Err r = sym (ap (λ (n : ℕ). named n (refusal_place r)) e) ∙ named_told (Err r) in cc
+
+-- the first nine have no place
+named_alone : (n p q : ℕ) → n < 10 → named n p ≡ named n q
+unfolding named
+named_alone zero p q h = refl
+named_alone (suc zero) p q h = refl
+named_alone (suc (suc zero)) p q h = refl
+named_alone (suc (suc (suc zero))) p q h = refl
+named_alone (suc (suc (suc (suc zero)))) p q h = refl
+named_alone (suc (suc (suc (suc (suc zero))))) p q h = refl
+named_alone (suc (suc (suc (suc (suc (suc zero)))))) p q h = refl
+named_alone (suc (suc (suc (suc (suc (suc (suc zero))))))) p q h = refl
+named_alone (suc (suc (suc (suc (suc (suc (suc (suc zero)))))))) p q h = refl
+named_alone (suc (suc (suc (suc (suc (suc (suc (suc (suc zero))))))))) p q h = refl
+named_alone (suc (suc (suc (suc (suc (suc (suc (suc (suc (suc n)))))))))) p q h = absurd (omega arith)
+
+pub alone_once : (r s : Refusal) → refusal_number r ≡ refusal_number s → refusal_number r < 10 → r ≡ s
+unfolding refused
+alone_once r s e h =
+    ap refused (sym (named_told (Err r)) ∙ named_alone (refusal_number r) (refusal_place r) (refusal_place s) h ∙ ap (λ (n : ℕ). named n (refusal_place s)) e ∙ named_told (Err s))
