@@ -7,6 +7,8 @@ use Prim.Native.Nat.{ℕ, ◌≤◌}
 use lib.ListN.{length, replicate}
 use denote.Ref.{Bor}
 use Rattle.std.specs.Prelude.{Result, Ok, Err, ⊤}
+use Rattle.group.proofs.Once.{read_once, count_once}
+use Rattle.station.proofs.Once.{mask_once}
 use Rattle.base.specs.HowMany.{how_many}
 use Rattle.base.specs.Part.{word_at}
 use Rattle.bits.specs.Bit.{width, bit, next_bit, after_word}
@@ -34,9 +36,9 @@ use Rattle.crossing.specs.declared.part.Part.{Part}
 use Rattle.gather.specs.Gather.{gathered, gathered_end}
 use Rattle.event.specs.Carrier.{carriers, entering}
 use Rattle.group.specs.Close.{close_answer}
-use Rattle.group.specs.Count.{count_answer}
+use Rattle.group.specs.Count.{count_told, count_answer}
 use Rattle.group.specs.Fresh.{fresh_answer}
-use Rattle.group.specs.Read.{ReadAnswer, Reads, read_answer}
+use Rattle.group.specs.Read.{Reads, read_told, read_answer}
 use Rattle.group.specs.Request.{request_refusal, request_answer}
 use Rattle.close.specs.Settled.{settled_by}
 use Rattle.group.specs.declared.Answer.{Answer}
@@ -61,7 +63,7 @@ use Rattle.span.specs.declared.SpansAnswer.{SpansAnswer}
 use Rattle.rules.specs.Refusal.{told, alone}
 use Rattle.rules.specs.declared.refusal.Refusal.{Refusal}
 use Rattle.rules.proofs.Told.{told_once}
-use Rattle.station.specs.Mask.{mask_answer}
+use Rattle.station.specs.Mask.{mask_told, mask_answer}
 use Rattle.station.specs.declared.MaskAnswer.{MaskAnswer}
 use Rattle.store.specs.Store.{good_store}
 use Rattle.strip.specs.declared.Side.{Side}
@@ -81,20 +83,27 @@ pub record PromisesDetermine : Type 0 where
   -- Group::fresh, ferrulebee_fresh
   pub fresh : (number : ℕ) → Once Answer (λ r. r ≡ fresh_answer number)
   -- refusal::request_refusal
-  pub request_refusal_lem : (g : Group) (kind n : ℕ) → Once ℕ (λ r. r ≡ request_refusal g kind n)
+  pub request_refusal_lem : (g : Group) (kind n : ℕ) → Once (Result ⊤ Refusal) (λ r. told r ≡ alone (request_refusal g kind n))
   -- request::request, ferrulebee_request
   pub request : (g : Group) (kind n : ℕ) → Once Answer (λ r. r ≡ request_answer g kind n)
-  -- request::request_at, ferrulebee_request_at
-  pub request_at : (g : Group) (kind n : ℕ) → Once (ℕ × Group) (λ r. (r.0 ≡ (request_answer g kind n).code) × (r.1 ≡ (request_answer g kind n).group))
+  -- request::request_at
+  pub request_at : (g : Group) (kind n : ℕ)
+      → Once (Result ⊤ Refusal × Group) (λ r. (told r.0 ≡ alone (request_answer g kind n).code) × (r.1 ≡ (request_answer g kind n).group))
+  -- ferrulebee_request_at
+  pub request_at_numbers : (g : Group) (kind n : ℕ) → Once (ℕ × Group) (λ r. (r.0 ≡ (request_answer g kind n).code) × (r.1 ≡ (request_answer g kind n).group))
   -- close::close, ferrulebee_close
   pub close : (g : Group) → Once Answer (λ r. r ≡ close_answer g)
   -- Group::read
-  pub read : (g : Group) (m s : ℕ) → Once ReadAnswer (Reads g m s)
-  -- Group::models, ferrulebee_models
-  pub models : (g : Group) (s : ℕ) → Once CountAnswer (λ r. r ≡ count_answer g s)
+  pub read : (g : Group) (m s : ℕ) → Once (Result Bool Refusal) (λ r. Reads g m s (read_told r))
+  -- Group::models
+  pub models : (g : Group) (s : ℕ) → Once (Result ℕ Refusal) (λ r. count_told r ≡ count_answer g s)
+  -- ferrulebee_models
+  pub models_numbers : (g : Group) (s : ℕ) → Once CountAnswer (λ r. r ≡ count_answer g s)
   -- the station
-  -- station::mask, ferrulebee_mask
-  pub mask : (gs : List Group) (m s : ℕ) → Once MaskAnswer (λ r. r ≡ mask_answer gs m s)
+  -- station::mask
+  pub mask : (gs : List Group) (m s : ℕ) → Once (Result ℕ Refusal) (λ r. mask_told r ≡ mask_answer gs m s)
+  -- ferrulebee_mask
+  pub mask_numbers : (gs : List Group) (m s : ℕ) → Once MaskAnswer (λ r. r ≡ mask_answer gs m s)
   -- the judge, on words and from C, and its evidence: the same words at the same place
   -- judge::judge
   pub judge : (m s : List ℕ) (now : ℕ) → Once (Result Verdict Refusal) (Judges m s now)
@@ -151,7 +160,7 @@ pub record PromisesDetermine : Type 0 where
       → Once (ℕ × List ℕ) (λ r. (r.0 ≡ gathered_end words side n out at) × (r.1 ≡ gathered words side n out at))
   -- from C, in numbers: a read, a delivery with its buffer, the records of one tick, the evidence
   -- crossing::numbers::of_read
-  pub of_read : (a : ReadAnswer) → Once Read (λ r. r ≡ read_numbers a)
+  pub of_read : (a : Result Bool Refusal) → Once Read (λ r. r ≡ read_numbers (read_told a))
   -- crossing::numbers::of_delivery
   pub of_delivery : (d : Result ℕ Refusal) → Once Delivered (λ r. r ≡ delivery_numbers (delivery_told d))
   -- ferrulebee_read
@@ -251,13 +260,16 @@ once_delivered grants m store out r t p q = let e = once grants m store out r.0 
 pub promises_determine : PromisesDetermine
 promises_determine = record {
   fresh = λ number. one (fresh_answer number);
-  request_refusal_lem = λ g kind n. one (request_refusal g kind n);
+  request_refusal_lem = λ g kind n r t p q. told_once (p ∙ sym q);
   request = λ g kind n. one (request_answer g kind n);
-  request_at = λ g kind n. two (request_answer g kind n).code (request_answer g kind n).group;
+  request_at = λ g kind n r t p q i. (told_once (p.0 ∙ sym q.0) i, (p.1 ∙ sym q.1) i);
+  request_at_numbers = λ g kind n. two (request_answer g kind n).code (request_answer g kind n).group;
   close = λ g. one (close_answer g);
-  read = λ g m s r t p q. p.answer ∙ sym q.answer;
-  models = λ g s. one (count_answer g s);
-  mask = λ gs m s. one (mask_answer gs m s);
+  read = read_once;
+  models = count_once;
+  models_numbers = λ g s. one (count_answer g s);
+  mask = mask_once;
+  mask_numbers = λ gs m s. one (mask_answer gs m s);
   judge = λ m s now r t p q. p.answer ∙ sym q.answer;
   judge_of_bytes = λ m s now. one (packed (judged_from m s now));
   judged = λ m s now. one (judged_from m s now);
@@ -278,7 +290,7 @@ promises_determine = record {
   tick_part_lem = λ ws t. two (tick_part ws.now t) (word_at ws (tick_start ws.now t));
   first_bad_lem = λ side now s. one (first_bad side now s);
   gather = λ words side n out at. two (gathered_end words side n out at) (gathered words side n out at);
-  of_read = λ a. one (read_numbers a);
+  of_read = λ a. one (read_numbers (read_told a));
   of_delivery = λ d. one (delivery_numbers (delivery_told d));
   read_numbers_lem = λ g m s. one (read_numbers (read_answer g m s));
   delivery_numbers_lem = λ g m store out. two (delivery_numbers (answer g.grants m store (length out))) (buffer_after g.grants m store out);

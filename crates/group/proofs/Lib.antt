@@ -6,6 +6,7 @@ pub mod Close
 pub mod Fits
 pub mod Fresh
 pub mod Held
+pub mod Once
 pub mod Quiet
 pub mod Request
 pub mod View

@@ -1,6 +1,6 @@
 -- A refusal's number and place say which refusal it is: what a check tells in numbers is no less than what it answers.
-use Rattle.std.specs.Prelude.{◌≡◌, ℕ, cond, eqb, Result, Ok, Err, ⊤}
-use Rattle.std.proofs.Common.{ap, ap₂, sym, ◌∙◌, refl, ⊎_elim}
+use Rattle.std.specs.Prelude.{◌≡◌, ◌<◌, ℕ, zero, suc, cond, eqb, Result, Ok, Err, ⊤}
+use Rattle.std.proofs.Common.{ap, ap₂, sym, ◌∙◌, refl, ⊎_elim, arith}
 use Rattle.std.proofs.lemmas.Bool.{cases_eq, ne_eqb}
 use Rattle.rules.specs.declared.refusal.Refusal.{Refusal}
 use Rattle.rules.specs.declared.refusal.Refusal.TheVariants.{BadKind, BadNumber, NoTickLeft, SecondEvent, AlreadyIn, NotIn, BadList, BadGroup, LateNow, LongModel, LongSheet, BadModel, BadSheet, BadLength, BadTotal, BadHeader, BadCount, BadRecord, NotRising, IllFormed, ShortBuffer, ShortList, BadStore, NotInStore, BadEntry, DeliveryTooLong, TooManySpans}
@@ -101,3 +101,23 @@ module _ (place code : ℕ) where
       (λ z. z)
       (λ (some : code ≡ 0 → ⊥). sym (ap (λ (t : Told). t.code) (simp (ne_eqb code 0 some) at e)))
       (cases_eq code 0)
+
+-- of a number without its place: the first nine have no place
+named_alone : (n p q : ℕ) → n < 10 → named n p ≡ named n q
+unfolding named
+named_alone zero p q h = refl
+named_alone (suc zero) p q h = refl
+named_alone (suc (suc zero)) p q h = refl
+named_alone (suc (suc (suc zero))) p q h = refl
+named_alone (suc (suc (suc (suc zero)))) p q h = refl
+named_alone (suc (suc (suc (suc (suc zero))))) p q h = refl
+named_alone (suc (suc (suc (suc (suc (suc zero)))))) p q h = refl
+named_alone (suc (suc (suc (suc (suc (suc (suc zero))))))) p q h = refl
+named_alone (suc (suc (suc (suc (suc (suc (suc (suc zero)))))))) p q h = refl
+named_alone (suc (suc (suc (suc (suc (suc (suc (suc (suc zero))))))))) p q h = refl
+named_alone (suc (suc (suc (suc (suc (suc (suc (suc (suc (suc n)))))))))) p q h = absurd (omega arith)
+
+pub alone_once : (r s : Refusal) → refusal_number r ≡ refusal_number s → refusal_number r < 10 → r ≡ s
+unfolding refused
+alone_once r s e h =
+    ap refused (sym (named_told (Err r)) ∙ named_alone (refusal_number r) (refusal_place r) (refusal_place s) h ∙ ap (λ (n : ℕ). named n (refusal_place s)) e ∙ named_told (Err s))

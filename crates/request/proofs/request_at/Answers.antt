@@ -1,19 +1,15 @@
 -- `request::request_at` meets its contract: the mark is set only where no refusal is given.
 use Rattle.std.proofs.Common.{sym, ap, ◌∙◌, rules}
-use Rattle.std.specs.Prelude.{◌≡◌, ℕ, Result, Ok, Err, ⊤}
-use Rattle.rules.specs.Refusal.{Told, told, alone}
-use Rattle.rules.specs.declared.refusal.Refusal.{Refusal}
-use Rattle.rules.proofs.Told.{told_once}
+use Rattle.std.specs.Prelude.{◌≡◌, Err}
+use Rattle.rules.specs.Refusal.{Told}
+use Rattle.rules.proofs.Told.{never_zero}
 use Rattle.group.proofs.Accepted.{accepted}
 use Rattle.group.proofs.Request.{request_code, request_refused, request_accepted}
 use Rattle.group.specs.Request.{request_refusal}
 use Rattle.request.proofs.request_at.Goals as goal
 use Rattle.request.proofs.request_at.Goals.{In_ok-request_refusal}
 
--- a refusal's number is never 0
-some : (r : Result ⊤ Refusal) (code : ℕ) → told r ≡ alone code → code ≡ 0 → r ≡ Ok tt
-some r code e z = told_once {r = r} {s = Ok tt} (e ∙ ap alone z)
-
+-- no refusal was told
 none : (c : In_ok-request_refusal) → request_refusal c.args.g.now c.args.kind c.args.number ≡ 0
 none c = sym (ap (λ (t : Told). t.code) c.in_ok-request_refusal.ensures)
 
@@ -24,7 +20,8 @@ returns-in_err-request_refusal-clause-answer c =
 
 pub returns-in_err-request_refusal-clause-group : goal.returns-in_err-request_refusal-clause-group
 returns-in_err-request_refusal-clause-group c =
-    sym (request_refused c.args.g.now c.args.kind c.args.number (λ z. let e : c.request_refusal.result ≡ Ok tt = some c.request_refusal.result _ c.request_refusal.ensures z in cc c.in_err-request_refusal.was))
+    sym (request_refused c.args.g.now c.args.kind c.args.number
+    (λ z. never_zero c.in_err-request_refusal.field-0.0 (ap (λ (t : Told). t.code) c.in_err-request_refusal.ensures ∙ z)))
 
 pub mark-requires : goal.mark-requires
 mark-requires c = (accepted c.args.g.now c.args.kind c.args.number (none (goal.at.mark-requires c).In_ok-request_refusal)).ranged
