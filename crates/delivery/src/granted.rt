@@ -21,12 +21,10 @@ pub fn deliver(
     if !store::good_store(store) {
         return Err(Refusal::BadStore);
     }
-    let seen = look::check(grants, model, store)?;
-    let total = seen.total;
-    if (out.len() as u64) < total {
+    let sums = look::check(grants, model, store)?;
+    if out.len() < sums.total as usize {
         return Err(Refusal::DeliveryTooLong);
     }
-    let length = total as u32;
-    parts::write_delivery(grants, model, store, seen.count, length, out);
-    Ok(length)
+    parts::write_delivery(grants, model, store, sums, out);
+    Ok(sums.total)
 }

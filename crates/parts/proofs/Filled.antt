@@ -1,17 +1,28 @@
 -- The buffer while the parts of a delivery are written: the parts of the granted sheets below a sheet stand behind the first two words. Assumes nothing.
 use mathlib.Core.Path.{◌≡◌, refl, sym, ap, ap₂, ◌∙◌}
 use mathlib.Core.Bool.{true, false}
-use mathlib.Core.List.{List, ◌++◌}
-use Prim.Native.Nat.{ℕ, ◌+◌, ◌≤◌, ◌<◌}
+use mathlib.Core.List.{List, [], ◌++◌, append-nil}
+use Prim.Native.Nat.{ℕ, ◌+◌, ◌-◌, ◌≤◌, ◌<◌}
 use native.Mathlib.Omega.{arith}
-use lib.ListN.{length, length-append}
+use borrow.Rule.Slice.PartMut.{put_mid}
+use native.Mathlib.Nat.{le_refl}
+use lib.ListN.{length, drop, length-append, length-drop, drop_of_length-le}
+use lib.Seq.{drop-drop}
 use Rattle.rules.specs.Ranges.{sheets}
 use Rattle.wire.specs.Put.{put}
-use Rattle.wire.proofs.Put.{put_none, put_next, length_put}
+use Rattle.wire.proofs.Put.{put_none, put_front, put_next, length_put}
 use Rattle.bits.specs.Granted.{granted}
 use Rattle.parts.specs.Granted.{granted_below}
 use Rattle.parts.specs.Delivery.{part, parts, delivery_length, granted_sheets}
 use Rattle.parts.proofs.Parts.{parts_in, parts_out, parts_longer}
+
+-- what is put at the front of a list's rest is put there in the list
+pub put_rest : (d l : List ℕ) (at : ℕ) → at + length l ≤ length d → put_mid at (length d - at) d (put (drop at d) 0 l) ≡ put d at l
+unfolding put
+put_rest d l at room =
+    let rest : put (drop at d) 0 l ≡ l ++ drop (at + length l) d = put_front (drop at d) l ∙ ap (λ (x : List ℕ). l ++ x) (simp drop-drop) in
+    let none : drop (length d - at) (drop at d) ≡ [] = drop_of_length-le (drop at d) (simp length-drop (le_refl _)) in
+    ap (put_mid at (length d - at) d) rest ∙ simp (none, append-nil)
 
 module _ (grants : List ℕ) (m : ℕ) (b before : List ℕ) where
   -- where the next part goes, and what stands in the buffer

@@ -6,4 +6,4 @@ pub mod Head
 pub mod Listed
 pub mod Longest
 pub mod Parts
-pub mod Sums
+pub mod Summed

@@ -13,7 +13,7 @@ use Rattle.store.proofs.Store.{good}
 use Rattle.parts.specs.Delivery.{delivery_length, granted_sheets}
 use Rattle.parts.specs.Ready.{Ready}
 use Rattle.parts.proofs.Fault.{fault_free}
-use Rattle.parts.proofs.Sums.{Sums, sums_none, sums_out, sums_in}
+use Rattle.parts.proofs.Summed.{Sums, sums_none, sums_out, sums_in}
 
 module _ (grants : List ℕ) (m : ℕ) (b : List ℕ) (ready : Ready grants m b) where
   -- the sums below each sheet, as the check forms them

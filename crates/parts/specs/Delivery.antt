@@ -4,6 +4,7 @@ use Rattle.rules.specs.Ranges.{sheets}
 use Rattle.wire.specs.Word.{bytes32}
 use Rattle.store.specs.Entry.{offset, sheet_length}
 use Rattle.parts.specs.Granted.{granted_below}
+use Rattle.parts.specs.declared.Sums.{Sums}
 
 -- the store's bytes of sheet s
 unfoldable pub sheet_bytes : List ℕ → ℕ → List ℕ
@@ -27,3 +28,7 @@ delivery_of b ss = bytes32 (length ss) ++ (bytes32 (delivery_length b ss) ++ par
 
 abbrev pub granted_sheets : List ℕ → ℕ → List ℕ
 granted_sheets grants m = granted_below grants m sheets
+
+-- how many granted sheets there are, and how long their delivery is
+abbrev pub sums_of : List ℕ → ℕ → List ℕ → Sums
+sums_of grants m b = record { count = length (granted_sheets grants m); total = delivery_length b (granted_sheets grants m) }

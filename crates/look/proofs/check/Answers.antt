@@ -1,7 +1,7 @@
 use mathlib.Core.Path.{◌≡◌, sym, ap₂, ◌∙◌}
 use mathlib.Core.Bool.{true}
 use mathlib.Core.List.{List}
-use Prim.Native.Nat.{ℕ, ◌<◌}
+use Prim.Native.Nat.{ℕ, ◌+◌, ◌<◌}
 use native.Mathlib.Omega.{arith}
 use borrow.Author.Tests.{lt-ltb}
 use Rattle.std.specs.Prelude.{Err, ⊤}
@@ -11,11 +11,11 @@ use Rattle.rules.specs.Refusal.{told, placed}
 use Rattle.rules.specs.declared.refusal.Refusal.{Refusal}
 use Rattle.rules.proofs.Told.{placed_refused, placed_none}
 use Rattle.bits.specs.Granted.{granted}
-use Rattle.store.specs.Entry.{entry_fault}
+use Rattle.store.specs.Entry.{sheet_length, entry_fault}
 use Rattle.store.proofs.Store.{good}
 use Rattle.store.proofs.Entry.{sound}
 use Rattle.parts.specs.Fault.{first_faulty}
-use Rattle.parts.proofs.Sums.{Sums, sums_none, sums_out, sums_in, sums_stop, sums_end}
+use Rattle.parts.proofs.Summed.{Sums, sums_none, sums_out, sums_in, sums_stop, sums_end}
 use Rattle.look.specs.Look.{found}
 use Rattle.look.proofs.check.Goals as goal
 use Rattle.look.proofs.check.Goals.{Else-not-is_granted, In_ok-entry_fault}
@@ -34,6 +34,10 @@ yes c = sym c.is_granted.ensures ∙ c.if-not-is_granted.false
 
 free : (c : In_ok-entry_fault) → entry_fault c.args.store.now c.loop-sheet.sheet ≡ 0
 free c = placed_none c.loop-sheet.sheet _ (c.in_ok-entry_fault.ensures {u = tt})
+
+-- and the sums take it in
+more : (c : In_ok-entry_fault) → Sums c.args.grants.now c.args.model c.args.store.now (c.loop-sheet.sheet + 1) (c.loop-sheet.count + 1) (c.loop-sheet.total + (8 + sheet_length c.args.store.now c.loop-sheet.sheet))
+more c = sums_in _ _ _ _ _ _ c.loop-sheet.invariant (good c.args.store.now c.requires.1) (yes (goal.at.In_ok-entry_fault c).Else-not-is_granted) (free c)
 
 pub loop-sheet-init : goal.loop-sheet-init
 loop-sheet-init c = sums_none _ _ _
@@ -56,10 +60,18 @@ length_of-requires c =
     let entry = sound _ _ (free (goal.at.length_of-requires c).In_ok-entry_fault) in
     omega (arith, entry.inside, g.table)
 
+pub overflow_add-total : goal.overflow_add-total
+overflow_add-total c =
+    let so = more (goal.at.overflow_add-total c).In_ok-entry_fault in
+    omega (arith, so.short, c.length_of.ensures.0)
+
+pub overflow_add-total-in-loop-sheet : goal.overflow_add-total-in-loop-sheet
+overflow_add-total-in-loop-sheet c =
+    let so = more (goal.at.overflow_add-total-in-loop-sheet c).In_ok-entry_fault in
+    omega (arith, so.short, c.length_of.ensures.0)
+
 pub loop-sheet-preserved : goal.loop-sheet-preserved
-loop-sheet-preserved c =
-    rw c.length_of.ensures.0
-    (sums_in _ _ _ _ _ _ c.loop-sheet.invariant (good c.args.store.now c.requires.1) (yes (goal.at.loop-sheet-preserved c).Else-not-is_granted) (free (goal.at.loop-sheet-preserved c).In_ok-entry_fault))
+loop-sheet-preserved c = rw c.length_of.ensures.0 (more (goal.at.loop-sheet-preserved c).In_ok-entry_fault)
 
 pub returns : goal.returns
 returns c =
@@ -68,5 +80,5 @@ returns c =
     let last = sums_end _ _ _ _ _ _ so all ∙ all in
     record {
       refused = simp last;
-      summed = (rw (← all) (ap₂ (λ (x y : ℕ). record { count = x; total = y }) so.counted so.summed), omega (arith, so.short));
+      summed = rw (← all) (ap₂ (λ (x y : ℕ). record { count = x; total = y }) so.counted so.summed);
     }

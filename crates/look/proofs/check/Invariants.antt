@@ -1,6 +1,6 @@
 -- `look::check` meets its contract. Its invariant is `Sums`: the sums of the granted sheets below the sheet at hand, none of which is faulty.
 -- Assumes nothing.
-use Rattle.parts.proofs.Sums.{Sums}
+use Rattle.parts.proofs.Summed.{Sums}
 use Rattle.look.proofs.check.Given as goal
 
 abbrev pub invariant-loop-sheet : goal.invariant-loop-sheet

@@ -8,6 +8,7 @@ use Rattle.wire.specs.Word.{bytes32}
 use Rattle.wire.specs.Put.{put, put32}
 use Rattle.wire.proofs.Word.{length_bytes32}
 use Rattle.wire.proofs.Put.{put_front}
+use Rattle.parts.specs.declared.Sums.{Sums}
 use Rattle.parts.specs.Delivery.{parts, delivery_length, delivery_of}
 use Rattle.parts.proofs.Head.{put_headed}
 use Rattle.parts.proofs.write_delivery.Goals as goal
@@ -27,7 +28,7 @@ delivery-put b ss out o1 o2 o3 count total ec et room e1 e2 e3 =
 pub returns : goal.returns
 returns c =
     let pre = c.requires in
-    delivery-put _ _ _ _ _ _ _ _ pre.1 pre.2 pre.3
+    delivery-put _ _ _ _ _ _ _ _ (ap (λ (x : Sums). x.count) pre.1) (ap (λ (x : Sums). x.total) pre.1) pre.2
     c.write32.ensures
     c.write32-2.ensures
     c.write_parts.ensures

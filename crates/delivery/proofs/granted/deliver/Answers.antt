@@ -19,14 +19,14 @@ use Rattle.store.specs.Store.{good_store}
 use Rattle.store.specs.Entry.{entry_fault}
 use Rattle.parts.specs.Fault.{faulty, first_faulty}
 use Rattle.parts.proofs.Fault.{first_fault}
-use Rattle.parts.specs.Delivery.{granted_sheets, delivery_length}
-use Rattle.look.specs.declared.Sums.{Sums}
+use Rattle.parts.specs.Delivery.{granted_sheets, delivery_length, sums_of}
+use Rattle.parts.specs.declared.Sums.{Sums}
 use Rattle.look.specs.Look.{found}
 use Rattle.delivery.specs.Answer.{answer}
 use Rattle.delivery.specs.Delivery.{Delivered, Refused, delivery_told}
 use Rattle.delivery.proofs.Answer.{promised, answer_number, answer_store, answer_sheet, answer_long, answer_delivered}
 use Rattle.delivery.proofs.granted.deliver.Goals as goal
-use Rattle.delivery.proofs.granted.deliver.Goals.{Else-not-good_store, Else-model-ge-MODELS, In_ok-seen}
+use Rattle.delivery.proofs.granted.deliver.Goals.{Else-not-good_store, Else-model-ge-MODELS, In_ok-sums}
 
 -- where the look finds nothing, no granted sheet is faulty
 through : (grants : List ℕ) (m : ℕ) (b : List ℕ) → alone 0 ≡ found grants m b → first_faulty grants m b ≡ sheets
@@ -69,43 +69,42 @@ pub check-requires : goal.check-requires
 check-requires c = ((known (goal.at.check-requires c).Else-model-ge-MODELS), (taken (goal.at.check-requires c).Else-not-good_store))
 
 -- past the look no granted sheet is faulty, and the sums are those of the granted sheets
-record Through (c : In_ok-seen) : Type 0 where
+record Through (c : In_ok-sums) : Type 0 where
   sound : first_faulty c.args.grants.now c.args.model c.args.store.now ≡ sheets
-  counted : c.in_ok-seen.seen.count ≡ length (granted_sheets c.args.grants.now c.args.model)
-  summed : c.in_ok-seen.seen.total ≡ delivery_length c.args.store.now (granted_sheets c.args.grants.now c.args.model)
+  sums : c.in_ok-sums.sums ≡ sums_of c.args.grants.now c.args.model c.args.store.now
+  total : c.in_ok-sums.sums.total ≡ delivery_length c.args.store.now (granted_sheets c.args.grants.now c.args.model)
 
-past : (c : In_ok-seen) → Through c
+past : (c : In_ok-sums) → Through c
 past c =
-    let all = c.in_ok-seen.ensures {u = tt} in
-    let sums = all.summed.0 in
-    record { sound = through c.args.grants.now c.args.model c.args.store.now all.refused; counted = ap (λ (x : Sums). x.count) sums; summed = ap (λ (x : Sums). x.total) sums }
+    let all = c.in_ok-sums.ensures {u = tt} in
+    record { sound = through c.args.grants.now c.args.model c.args.store.now all.refused; sums = all.summed; total = ap (λ (x : Sums). x.total) all.summed }
 
-pub returns-in_err-seen : goal.returns-in_err-seen
-returns-in_err-seen c =
+pub returns-in_err-sums : goal.returns-in_err-sums
+returns-in_err-sums c =
     let p = err_from_is_err_and c.from_residual.result c.from_residual.ensures.1 in
-    let before = goal.at.returns-in_err-seen c in
-    let both = promised _ _ _ c.args.out.now _ (refused _ _ _ _ _ (known before.Else-model-ge-MODELS) (taken before.Else-not-good_store) (c.in_err-seen.ensures {u = tt}).refused) in
+    let before = goal.at.returns-in_err-sums c in
+    let both = promised _ _ _ c.args.out.now _ (refused _ _ _ _ _ (known before.Else-model-ge-MODELS) (taken before.Else-not-good_store) (c.in_err-sums.ensures {u = tt}).refused) in
     rw (p.1, p.2) (record { answered = both.0; left = both.1 })
 
-pub returns-then-out-total : goal.returns-then-out-total
-returns-then-out-total c =
-    let before = goal.at.returns-then-out-total c in
-    let all = past before.In_ok-seen in
+pub returns-then-out-sums : goal.returns-then-out-sums
+returns-then-out-sums c =
+    let before = goal.at.returns-then-out-sums c in
+    let all = past before.In_ok-sums in
     let both = promised _ _ _ c.args.out.now _
-    (answer_long c.args.grants.now c.args.model c.args.store.now (length c.args.out.now) (known before.Else-model-ge-MODELS) (taken before.Else-not-good_store) (omega (arith, all.sound)) (omega (arith, all.summed, c.if-out-total.true))) in
+    (answer_long c.args.grants.now c.args.model c.args.store.now (length c.args.out.now) (known before.Else-model-ge-MODELS) (taken before.Else-not-good_store) (omega (arith, all.sound)) (omega (arith, all.total, c.if-out-sums.true))) in
     record { answered = both.0; left = both.1 }
 
 pub write_delivery-requires : goal.write_delivery-requires
 write_delivery-requires c =
     let before = goal.at.write_delivery-requires c in
-    let all = past before.In_ok-seen in
-    (record { known = known before.Else-model-ge-MODELS; taken = taken before.Else-not-good_store; sound = all.sound }, all.counted, all.summed, c.if-out-total.false)
+    let all = past before.In_ok-sums in
+    (record { known = known before.Else-model-ge-MODELS; taken = taken before.Else-not-good_store; sound = all.sound }, all.sums, c.if-out-sums.false)
 
 pub returns : goal.returns
 returns c =
     let before = goal.at.returns c in
-    let all = past before.In_ok-seen in
-    let fits = c.if-out-total.false in
-    let done = promised c.args.grants.now c.args.model c.args.store.now c.args.out.now (Delivered c.in_ok-seen.seen.total)
-    (answer_delivered c.args.grants.now c.args.model c.args.store.now (length c.args.out.now) (known before.Else-model-ge-MODELS) (taken before.Else-not-good_store) (omega (arith, all.sound)) (omega (arith, all.summed, fits)) ∙ ap Delivered (sym all.summed)) in
+    let all = past before.In_ok-sums in
+    let fits = c.if-out-sums.false in
+    let done = promised c.args.grants.now c.args.model c.args.store.now c.args.out.now (Delivered c.in_ok-sums.sums.total)
+    (answer_delivered c.args.grants.now c.args.model c.args.store.now (length c.args.out.now) (known before.Else-model-ge-MODELS) (taken before.Else-not-good_store) (omega (arith, all.sound)) (omega (arith, all.total, fits)) ∙ ap Delivered (sym all.total)) in
     record { answered = done.0; left = c.write_delivery.ensures ∙ done.1 }

@@ -43,7 +43,7 @@ module _ (grants : List ℕ) (m : ℕ) (b : List ℕ) where
           short = omega (arith, so.short);
         }
 
-    pub sums_in : Good b → granted grants m s ≡ true → entry_fault b s ≡ 0 → Sums (s + 1) (count + 1) (total + 8 + sheet_length b s)
+    pub sums_in : Good b → granted grants m s ≡ true → entry_fault b s ≡ 0 → Sums (s + 1) (count + 1) (total + (8 + sheet_length b s))
     sums_in good g e =
         let entry = sound b s e in
         let long = length_part b s (omega (arith, entry.within, good.total)) in
