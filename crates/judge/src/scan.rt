@@ -5,17 +5,13 @@ ghost use Rattle.strip.specs.History.{history_of};
 ghost use Rattle.strip.proofs.Places.{Rising, UpTo};
 ghost use Rattle.standing.specs.Scan.{scan_to};
 
-use standing::{Seen, Standing};
+use standing::Seen;
 
 pub fn scan(m: &[u32], s: &[u32]) -> Seen
     requires { Rising m.now × Rising s.now × (length m.now ≤ events) × (length s.now ≤ events) }
     ensures { (n : ℕ) → UpTo n m.now → UpTo n s.now → result ≡ scan_to (history_of m.now) (history_of s.now) n }
 {
-    let mut seen = Seen {
-        inside: false,
-        liberal: false,
-        standing: Standing::Never,
-    };
+    let mut seen = stepping::START;
     let mut i: usize = 0;
     let mut j: usize = 0;
     // The heads stand in variables: a turn reads only the strip whose event it takes.

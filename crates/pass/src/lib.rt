@@ -26,11 +26,7 @@ pub fn begin(m: &[u32], s: &[u32]) -> Pass
         model: stepping::next_event(m, 0),
         sheet: stepping::next_event(s, 0),
         tick: 0,
-        seen: standing::Seen {
-            inside: false,
-            liberal: false,
-            standing: standing::Standing::Never,
-        },
+        seen: stepping::START,
     }
 }
 

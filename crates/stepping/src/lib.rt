@@ -18,13 +18,19 @@ pub struct Head {
 // Above the tick of any word.
 pub const NEVER: u32 = 1048576;
 
+// Before the first tick.
+pub const START: Seen = Seen {
+    inside: false,
+    liberal: false,
+    standing: Standing::Never,
+};
+
 // A strict event ends a grant and nothing else.
 fn ended(before: Standing, end: Standing) -> Standing
     ensures { result ≡ ended_by before end }
 {
     match before {
-        Standing::ByAdd(_) => end,
-        Standing::ByJoin(_) => end,
+        Standing::ByAdd(_) | Standing::ByJoin(_) => end,
         Standing::Never => before,
         Standing::Left(_) => before,
         Standing::Removed(_) => before,
@@ -60,10 +66,10 @@ fn stands(
 pub fn step(before: Seen, tick: u32, model: u32, sheet: u32) -> Seen
     ensures { result ≡ step_of before tick model sheet }
 {
-    let join = (model == rules::SJ) | (model == rules::LJ);
-    let leave = (model == rules::SL) | (model == rules::LL);
-    let add = (sheet == rules::SA) | (sheet == rules::LA);
-    let remove = (sheet == rules::SR) | (sheet == rules::LR);
+    let join = matches!(model, rules::SJ | rules::LJ);
+    let leave = matches!(model, rules::SL | rules::LL);
+    let add = matches!(sheet, rules::SA | rules::LA);
+    let remove = matches!(sheet, rules::SR | rules::LR);
     let inside = join | (!leave & before.inside);
     let liberal = (sheet == rules::LA) | (!remove & before.liberal);
     let stood = before.standing;
@@ -103,13 +109,7 @@ pub fn next_event(s: &[u32], i: usize) -> Head
 pub fn holds(standing: Standing) -> bool
     ensures { result ≡ holding standing }
 {
-    match standing {
-        Standing::Never => false,
-        Standing::ByAdd(_) => true,
-        Standing::ByJoin(_) => true,
-        Standing::Left(_) => false,
-        Standing::Removed(_) => false,
-    }
+    matches!(standing, Standing::ByAdd(_) | Standing::ByJoin(_))
 }
 
 pub fn told(standing: Standing) -> Verdict
