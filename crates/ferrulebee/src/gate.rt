@@ -46,10 +46,7 @@ pub fn ferrulebee_models(group: Group, sheet: u32) -> CountAnswer
 pub fn ferrulebee_request_at(g: &mut Group, kind: u32, number: u32) -> u32
     ensures { (result ≡ (request_answer g.old kind number).code) × (g.new ≡ (request_answer g.old kind number).group) }
 {
-    match request::request_at(g, kind, number) {
-        Ok(()) => 0,
-        Err(refusal) => refusal.number(),
-    }
+    request::request_at(g, kind, number)
 }
 
 // A station's groups side by side: the mask of the positions that grant.

@@ -24,9 +24,10 @@ fn listed<P: Print>(page: &mut Page<P>, book: Book) {
     for model in 0..rules::MODELS {
         for sheet in 0..rules::SHEETS {
             let verdict = judge::judge(models.of(model), sheets.of(sheet), book.ticks);
-            if let Ok(Verdict::Granted(moment)) = verdict {
-                granted(page, model, sheet, moment);
-            }
+            let Ok(Verdict::Granted(moment)) = verdict else {
+                continue;
+            };
+            granted(page, model, sheet, moment);
         }
     }
     page.total("granted");

@@ -29,24 +29,28 @@ pub fn mark(g: &mut Group, kind: u32, number: u32)
     }
 }
 
-// A request on a group lent and marked where it stands; a refusal leaves it as it was.
-pub fn request_at(g: &mut Group, kind: u32, number: u32) -> Result<(), Refusal>
-    ensures answer { told result ≡ alone (request_answer g.old kind number).code }
-    ensures group { g.new ≡ (request_answer g.old kind number).group }
-{
-    refusal::request_refusal(g, kind, number)?;
-    mark(g, kind, number);
-    Ok(())
-}
-
 // kept: a group by value, and a number beside it, are the C interface
-pub fn request(group: Group, kind: u32, number: u32) -> Answer
+pub fn request(mut group: Group, kind: u32, number: u32) -> Answer
     ensures { result ≡ request_answer group kind number }
 {
-    let mut after = group;
-    let code = match request_at(&mut after, kind, number) {
-        Ok(()) => 0,
-        Err(refusal) => refusal.number(),
-    };
-    Answer { code, group: after }
+    match refusal::request_refusal(&group, kind, number) {
+        Ok(()) => {
+            mark(&mut group, kind, number);
+            Answer { code: 0, group }
+        }
+        Err(refusal) => Answer {
+            code: refusal.number(),
+            group,
+        },
+    }
+}
+
+// A request on a group lent and marked where it stands; a refusal leaves it as it was.
+// kept: by value and stored back is the form that RULES.md 17 fixes, and the number is what C gets
+pub fn request_at(g: &mut Group, kind: u32, number: u32) -> u32
+    ensures { (result ≡ (request_answer g.old kind number).code) × (g.new ≡ (request_answer g.old kind number).group) }
+{
+    let asked = request(*g, kind, number);
+    *g = asked.group;
+    asked.code
 }
