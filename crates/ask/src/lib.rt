@@ -8,6 +8,7 @@ pub mod reason;
 mod word;
 
 use reason::Reason;
+use rules::kind::Kind;
 use std::cmp::Ordering;
 use word::{decimal, file};
 
@@ -66,10 +67,10 @@ fn exactly(words: &[&[u8]], takes: usize) -> Result<(), Reason>
     }
 }
 
-fn request<'a>(kind: u32, words: &[&'a [u8]]) -> Result<Asked<'a>, Reason> {
+fn request<'a>(kind: Kind, words: &[&'a [u8]]) -> Result<Asked<'a>, Reason> {
     exactly(words, 1)?;
     Ok(Asked::Request {
-        kind,
+        kind: kind.number(),
         number: decimal(words[0])?,
     })
 }
@@ -112,14 +113,14 @@ pub fn hear(line: &[u8]) -> Option<Result<Asked<'_>, Reason>> {
 // What a command asks for with the words behind its name.
 fn command<'a>(name: &[u8], words: &[&'a [u8]]) -> Result<Asked<'a>, Reason> {
     match name {
-        b"SJ" => request(rules::SJ, words),
-        b"LJ" => request(rules::LJ, words),
-        b"SL" => request(rules::SL, words),
-        b"LL" => request(rules::LL, words),
-        b"SA" => request(rules::SA, words),
-        b"LA" => request(rules::LA, words),
-        b"SR" => request(rules::SR, words),
-        b"LR" => request(rules::LR, words),
+        b"SJ" => request(Kind::SJ, words),
+        b"LJ" => request(Kind::LJ, words),
+        b"SL" => request(Kind::SL, words),
+        b"LL" => request(Kind::LL, words),
+        b"SA" => request(Kind::SA, words),
+        b"LA" => request(Kind::LA, words),
+        b"SR" => request(Kind::SR, words),
+        b"LR" => request(Kind::LR, words),
         b"request" => {
             exactly(words, 2)?;
             Ok(Asked::Request {

@@ -1,4 +1,4 @@
-// The ranges, the kinds and the refusal numbers of the gate, each with its one name. specs/ gives the definitions the same names.
+// The ranges, the kinds and the refusals of the gate, each with its one name. specs/ gives the definitions the same names.
 #![tactic(auto)]
 
 pub mod kind;
@@ -40,62 +40,3 @@ pub const SR: u32 = 6;
 pub const LR: u32 = 7;
 // A carrier's kind in a tick without an event of its own.
 pub const QUIET: u32 = 8;
-
-// Refusals of a request, a close, a read, a list of groups and a fresh group.
-pub const BAD_KIND: u32 = 1;
-
-pub const BAD_NUMBER: u32 = 2;
-
-pub const NO_TICK_LEFT: u32 = 3;
-
-pub const SECOND_EVENT: u32 = 4;
-
-pub const ALREADY_IN: u32 = 5;
-
-pub const NOT_IN: u32 = 6;
-
-pub const BAD_LIST: u32 = 7;
-
-pub const BAD_GROUP: u32 = 9;
-
-// Refusals of the judge.
-pub const LATE_NOW: u32 = 10;
-
-pub const LONG_MODEL: u32 = 11;
-
-pub const LONG_SHEET: u32 = 12;
-
-pub const BAD_MODEL: u32 = 13;
-
-pub const BAD_SHEET: u32 = 14;
-
-// Refusals of the event book.
-pub const BAD_LENGTH: u32 = 20;
-
-pub const BAD_TOTAL: u32 = 21;
-
-pub const BAD_HEADER: u32 = 22;
-
-pub const BAD_COUNT: u32 = 23;
-
-pub const BAD_RECORD: u32 = 24;
-
-pub const NOT_RISING: u32 = 25;
-
-pub const ILL_FORMED: u32 = 26;
-
-pub const SHORT_BUFFER: u32 = 27;
-
-pub const SHORT_LIST: u32 = 28;
-
-// Refusals of a delivery.
-pub const BAD_STORE: u32 = 31;
-
-pub const NOT_IN_STORE: u32 = 32;
-
-pub const BAD_ENTRY: u32 = 33;
-
-pub const DELIVERY_TOO_LONG: u32 = 34;
-
-// Refusal of the spans.
-pub const TOO_MANY_SPANS: u32 = 40;

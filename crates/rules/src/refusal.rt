@@ -2,8 +2,6 @@
 ghost use Rattle.std.specs.Prelude.{◌≡◌};
 ghost use Rattle.rules.specs.Refusal.{refusal_number, refusal_place};
 
-use std::fmt;
-
 #[derive(Clone, Copy, Debug, PartialEq, Eq)]
 pub enum Refusal {
     // a request, a close, a read, a list of groups, a fresh group
@@ -88,23 +86,6 @@ impl Refusal {
             Refusal::NotInStore(sheet) => sheet,
             Refusal::BadEntry(sheet) => sheet,
             _ => 0,
-        }
-    }
-}
-
-// "refused 21", or "refused 25 at 1" where it is about a word, a record or a sheet.
-impl fmt::Display for Refusal {
-    fn fmt<W: fmt::Write>(&self, f: &mut fmt::Formatter<W>) -> fmt::Result {
-        let number = self.number();
-        match self {
-            Refusal::BadModel(place)
-            | Refusal::BadSheet(place)
-            | Refusal::BadRecord(place)
-            | Refusal::NotRising(place)
-            | Refusal::IllFormed(place)
-            | Refusal::NotInStore(place)
-            | Refusal::BadEntry(place) => write!(f, "refused {number} at {place}"),
-            _ => write!(f, "refused {number}"),
         }
     }
 }
