@@ -2,7 +2,7 @@
 #![tactic(auto)]
 
 use ask::line;
-use group::{CountAnswer, ReadAnswer};
+use rules::refusal::Refusal;
 
 // The buffer. It is lent as the array that it is: a slice would cost the prover twice as much.
 pub const OUT: usize = 65536;
@@ -83,15 +83,18 @@ pub fn fresh(out: &mut Out, at: usize, code: u32, number: u32) -> usize {
     numbered_or(out, at, code, b"fresh ", number as u64)
 }
 
-pub fn models(out: &mut Out, at: usize, answer: CountAnswer) -> usize {
-    numbered_or(out, at, answer.code, b"models ", answer.count as u64)
+pub fn models(out: &mut Out, at: usize, answer: Result<u32, Refusal>) -> usize {
+    match answer {
+        Ok(count) => numbered(out, at, b"models ", count as u64),
+        Err(refusal) => refused(out, at, refusal.number()),
+    }
 }
 
-pub fn read(out: &mut Out, at: usize, answer: ReadAnswer) -> usize {
+pub fn read(out: &mut Out, at: usize, answer: Result<bool, Refusal>) -> usize {
     match answer {
-        ReadAnswer::Granted => text::add(out, at, b"granted\n"),
-        ReadAnswer::Denied => text::add(out, at, b"denied\n"),
-        ReadAnswer::Refused(code) => refused(out, at, code),
+        Ok(true) => text::add(out, at, b"granted\n"),
+        Ok(false) => text::add(out, at, b"denied\n"),
+        Err(refusal) => refused(out, at, refusal.number()),
     }
 }
 
