@@ -60,7 +60,9 @@ use Rattle.pass.specs.declared.Pass.{Pass}
 use Rattle.span.specs.Answer.{counted, spans_answer, list_after}
 use Rattle.span.proofs.Once.{counted_once}
 use Rattle.span.specs.declared.SpansAnswer.{SpansAnswer}
-use Rattle.rules.specs.Refusal.{told, alone}
+use Rattle.rules.specs.Kind.{kind_number}
+use Rattle.rules.specs.declared.kind.Kind.{Kind}
+use Rattle.rules.specs.Refusal.{refusal_number, refusal_place, told, alone}
 use Rattle.rules.specs.declared.refusal.Refusal.{Refusal}
 use Rattle.rules.proofs.Told.{told_once}
 use Rattle.station.specs.Mask.{mask_told, mask_answer}
@@ -119,8 +121,6 @@ pub record PromisesDetermine : Type 0 where
   -- span::spans
   pub spans : (m s : List ℕ) (now : ℕ) (list : List ℕ)
       → Once (Result ℕ Refusal × List ℕ) (λ r. (counted r.0 ≡ spans_answer m s now (length list)) × (r.1 ≡ list_after m s now list))
-  -- SpansAnswer::from
-  pub spans_counted : (answer : Result ℕ Refusal) → Once SpansAnswer (λ r. r ≡ counted answer)
   -- ferrulebee_spans
   pub spans_numbers : (m s : List ℕ) (now : ℕ) (list : List ℕ)
       → Once (SpansAnswer × List ℕ) (λ r. (r.0 ≡ spans_answer m s now (length list)) × (r.1 ≡ list_after m s now list))
@@ -182,6 +182,12 @@ pub record PromisesDetermine : Type 0 where
   pub set_either : (xs ys : List ℕ) → Once (List ℕ) (λ r. r ≡ either 4 xs ys)
   -- sets::after
   pub set_after : (was gone come : List ℕ) → Once (List ℕ) (λ r. r ≡ after 4 was gone come)
+  -- Refusal::number
+  pub refusal_number_lem : (refusal : Refusal) → Once ℕ (λ r. r ≡ refusal_number refusal)
+  -- Refusal::place
+  pub refusal_place_lem : (refusal : Refusal) → Once ℕ (λ r. r ≡ refusal_place refusal)
+  -- Kind::number
+  pub kind_number_lem : (kind : Kind) → Once ℕ (λ r. r ≡ kind_number kind)
   -- event::carriers_of
   pub carriers_of : (kind : ℕ) → Once ℕ (λ r. r ≡ carriers kind)
   -- event::is_entering
@@ -273,7 +279,6 @@ promises_determine = record {
   evidence = λ m s now. two (evidence_of (judged_by m.now s.now now) m.now s.now) (start_of (judged_by m.now s.now now) m s);
   check = λ m s now. one (checked m s now Err (Ok tt));
   spans = λ m s now list r t p q. let e = counted_once r.0 t.0 (p.0 ∙ sym q.0) in let f = p.1 ∙ sym q.1 in λ i. (e i, f i);
-  spans_counted = λ answer. one (counted answer);
   spans_numbers = λ m s now list. two (spans_answer m s now (length list)) (list_after m s now list);
   good_store_lem = λ b. one (good_store b);
   delivery = once_delivered;
@@ -298,6 +303,9 @@ promises_determine = record {
   count_bits = λ w. one (how_many (bit w) width);
   set_either = λ xs ys. one (either 4 xs ys);
   set_after = λ was gone come. one (after 4 was gone come);
+  refusal_number_lem = λ refusal. one (refusal_number refusal);
+  refusal_place_lem = λ refusal. one (refusal_place refusal);
+  kind_number_lem = λ kind. one (kind_number kind);
   carriers_of = λ kind. one (carriers kind);
   is_entering = λ kind. one (entering kind);
   settle = λ g. one (settled_by g);
