@@ -17,6 +17,8 @@ pub struct Sums {
 }
 
 // Bit `model` of the sheet's grant word.
+// kept: grants and model side by side: of a struct with both, each clause has to say `reader.entry.grants.now reader.entry.model`, which is no plainer.
+#[tactic(auto, unfolding(bits::specs::Bit::bit_in))]
 pub fn is_granted(grants: &[u64; 256], model: u32, sheet: u32) -> bool
     requires { (model < models) × (sheet < sheets) }
     ensures { result ≡ granted grants.now model sheet }
