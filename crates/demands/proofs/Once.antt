@@ -111,7 +111,7 @@ pub record PromisesDetermine : Type 0 where
   -- loader::judged
   pub judged : (m s : List ℕ) (now : ℕ) → Once (Result Verdict Refusal) (λ r. r ≡ judged_from m s now)
   -- loader::pack
-  pub pack : (answer : Result Verdict Refusal) → Once ℕ (λ r. r ≡ packed answer)
+  pub pack : (a : Result Verdict Refusal) → Once ℕ (λ r. r ≡ packed a)
   -- evidence::evidence
   pub evidence : (m s : Bor (List ℕ)) (now : ℕ)
       → Once (List ℕ × (ℕ × ℕ)) (λ r. (r.0 ≡ evidence_of (judged_by m.now s.now now) m.now s.now) × (r.1 ≡ start_of (judged_by m.now s.now now) m s))
@@ -230,9 +230,9 @@ pub record PromisesDetermine : Type 0 where
       → Once (List ℕ × (ℕ × ℕ)) (λ r. (r.0 ≡ closed_events events.now kept) × (r.1 ≡ word_at events 0))
   -- the numbers of a verdict
   -- formula::number
-  pub number : (answer : Result Verdict Refusal) → Once ℕ (λ r. r ≡ verdict_number answer)
+  pub number : (a : Result Verdict Refusal) → Once ℕ (λ r. r ≡ verdict_number a)
   -- formula::value
-  pub value : (answer : Result Verdict Refusal) → Once ℕ (λ r. r ≡ verdict_value answer)
+  pub value : (a : Result Verdict Refusal) → Once ℕ (λ r. r ≡ verdict_value a)
   -- text and decimal digits added to a buffer
   -- text::add
   pub text : (out : List ℕ) (at : ℕ) (bytes : List ℕ) → Once (ℕ × List ℕ) (λ r. (r.0 ≡ added_end out at bytes) × (r.1 ≡ added out at bytes))
