@@ -17,6 +17,7 @@ pub fn scan(m: &[u32], s: &[u32]) -> Seen
     // The heads stand in variables: a turn reads only the strip whose event it takes.
     let mut a = stepping::next_event(m, 0);
     let mut b = stepping::next_event(s, 0);
+    // kept: places by hand are plainer: a turn takes the next event of one strip, of the other, or of both.
     while i + j < m.len() + s.len() {
         if a.tick < b.tick {
             seen = stepping::step(seen, a.tick, a.kind, rules::QUIET);

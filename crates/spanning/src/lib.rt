@@ -5,6 +5,7 @@ ghost use Rattle.std.specs.Prelude.{◌≡◌, cond, ◌≤◌, eqb};
 ghost use Rattle.spanning.specs.Steps.{most, pair_at, ended, ended_list, turned, turned_list};
 
 // The first tick of the span that is open, 0 where none is, and how many have ended.
+// kept: `turned` and `ended` (specs/Steps.antt), which `turn` and `end` promise, have 0 for none.
 #[derive(Clone, Copy)]
 pub struct Spanning {
     pub first: u32,

@@ -16,6 +16,7 @@ pub struct Head {
 }
 
 // Above the tick of any word.
+// kept: `next_event` promises `head_of`, which has this tick past the end (docs/PROMISES.md).
 pub const NEVER: u32 = 1048576;
 
 // Before the first tick.
@@ -66,10 +67,11 @@ fn stands(
 pub fn step(before: Seen, tick: u32, model: u32, sheet: u32) -> Seen
     ensures { result ≡ step_of before tick model sheet }
 {
-    let join = matches!(model, rules::SJ | rules::LJ);
-    let leave = matches!(model, rules::SL | rules::LL);
-    let add = matches!(sheet, rules::SA | rules::LA);
-    let remove = matches!(sheet, rules::SR | rules::LR);
+    // kept: `matches!` misses this form's speed: judge-even 50.8 µs for 44.0, spans-even 67.2 µs for 60.0.
+    let join = (model == rules::SJ) | (model == rules::LJ);
+    let leave = (model == rules::SL) | (model == rules::LL);
+    let add = (sheet == rules::SA) | (sheet == rules::LA);
+    let remove = (sheet == rules::SR) | (sheet == rules::LR);
     let inside = join | (!leave & before.inside);
     let liberal = (sheet == rules::LA) | (!remove & before.liberal);
     let stood = before.standing;
