@@ -88,6 +88,9 @@ pub record PromisesDetermine : Type 0 where
   pub request_refusal_lem : (g : Group) (kind n : ℕ) → Once (Result ⊤ Refusal) (λ r. told r ≡ alone (request_refusal g kind n))
   -- request::request, ferrulebee_request
   pub request : (g : Group) (kind n : ℕ) → Once Answer (λ r. r ≡ request_answer g kind n)
+  -- request::take
+  pub take : (g : Group) (kind n : ℕ)
+      → Once (Result ⊤ Refusal × Group) (λ r. (told r.0 ≡ alone (request_answer g kind n).code) × (r.1 ≡ (request_answer g kind n).group))
   -- request::request_at, ferrulebee_request_at
   pub request_at : (g : Group) (kind n : ℕ) → Once (ℕ × Group) (λ r. (r.0 ≡ (request_answer g kind n).code) × (r.1 ≡ (request_answer g kind n).group))
   -- close::close, ferrulebee_close
@@ -265,6 +268,7 @@ promises_determine = record {
   fresh = λ number. one (fresh_answer number);
   request_refusal_lem = λ g kind n r t p q. told_once (p ∙ sym q);
   request = λ g kind n. one (request_answer g kind n);
+  take = λ g kind n r t p q i. (told_once (p.0 ∙ sym q.0) i, (p.1 ∙ sym q.1) i);
   request_at = λ g kind n. two (request_answer g kind n).code (request_answer g kind n).group;
   close = λ g. one (close_answer g);
   read = read_once;

@@ -39,9 +39,9 @@ fn converse<H: Files + Print, R: Read>(rt: &H, reader: &mut R, page: &mut Page<H
             Ok(Asked::Read { model, sheet }) => keep::read(&last.group, model, sheet),
             Ok(Asked::Models { sheet }) => keep::models(&last.group, sheet),
             Ok(Asked::Request { kind, number }) => {
-                last = request::request(last.group, kind, number);
+                let asked = request::take(&mut last.group, kind, number);
                 let event = kept::word(last.group.closed, kind, number);
-                keeper.requested(last.code, event)
+                keeper.requested(asked, event)
             }
             Ok(Asked::Close) => {
                 last = close::close(last.group);

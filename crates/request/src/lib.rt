@@ -29,20 +29,25 @@ pub fn mark(g: &mut Group, kind: u32, number: u32)
     }
 }
 
+// A request taken where the group stands; a refusal leaves it as it was.
+pub fn take(g: &mut Group, kind: u32, number: u32) -> Result<(), Refusal>
+    ensures answer { told result ≡ alone (request_answer g.old kind number).code }
+    ensures group { g.new ≡ (request_answer g.old kind number).group }
+{
+    refusal::request_refusal(g, kind, number)?;
+    mark(g, kind, number);
+    Ok(())
+}
+
 // kept: a group by value, and a number beside it, are the C interface
 pub fn request(mut group: Group, kind: u32, number: u32) -> Answer
     ensures { result ≡ request_answer group kind number }
 {
-    match refusal::request_refusal(&group, kind, number) {
-        Ok(()) => {
-            mark(&mut group, kind, number);
-            Answer { code: 0, group }
-        }
-        Err(refusal) => Answer {
-            code: refusal.number(),
-            group,
-        },
-    }
+    let code = match take(&mut group, kind, number) {
+        Ok(()) => 0,
+        Err(refusal) => refusal.number(),
+    };
+    Answer { code, group }
 }
 
 // A request on a group lent and marked where it stands; a refusal leaves it as it was.
