@@ -40,13 +40,12 @@ pub fn request_at(g: &mut Group, kind: u32, number: u32) -> Result<(), Refusal>
 }
 
 // kept: a group by value, and a number beside it, are the C interface
-pub fn request(group: Group, kind: u32, number: u32) -> Answer
+pub fn request(mut group: Group, kind: u32, number: u32) -> Answer
     ensures { result ≡ request_answer group kind number }
 {
-    let mut after = group;
-    let code = match request_at(&mut after, kind, number) {
+    let code = match request_at(&mut group, kind, number) {
         Ok(()) => 0,
         Err(refusal) => refusal.number(),
     };
-    Answer { code, group: after }
+    Answer { code, group }
 }
