@@ -68,8 +68,10 @@ fn converse<H: Files + Print, R: Read>(
             continue;
         }
         if name == ask::REQUEST {
-            let group = last.group;
-            last = request::request(group, asked.a, asked.b);
+            last.code = match request::request_at(&mut last.group, asked.a, asked.b) {
+                Ok(()) => 0,
+                Err(refusal) => refusal.number(),
+            };
             console = keep::requested(
                 console,
                 last.code,
