@@ -10,34 +10,22 @@ use lib.ListN.{length}
 use Rattle.std.specs.Prelude.{Err, ⊤}
 use Rattle.std.proofs.lemmas.Bool.{cases_lt}
 use Rattle.std.proofs.lemmas.Result.{err_from_is_err_and}
-use Rattle.base.proofs.First.{first_le}
 use Rattle.rules.specs.Ranges.{models, sheets}
-use Rattle.rules.specs.Refusal.{Told, told, alone}
+use Rattle.rules.specs.Refusal.{Told, told}
 use Rattle.rules.specs.declared.refusal.Refusal.{Refusal}
 use Rattle.rules.proofs.Told.{never_zero}
 use Rattle.store.specs.Store.{good_store}
 use Rattle.store.specs.Entry.{entry_fault}
-use Rattle.parts.specs.Fault.{faulty, first_faulty}
-use Rattle.parts.proofs.Fault.{first_fault}
+use Rattle.parts.specs.Fault.{first_faulty}
 use Rattle.parts.specs.Delivery.{granted_sheets, delivery_length, sums_of}
-use Rattle.parts.specs.declared.Sums.{Sums}
-use Rattle.look.specs.Look.{found}
+use Rattle.look.specs.Look.{Checked, checked_to, found}
 use Rattle.delivery.specs.Answer.{answer}
 use Rattle.delivery.specs.Delivery.{Delivered, Refused, delivery_told}
 use Rattle.delivery.proofs.Answer.{promised, answer_number, answer_store, answer_sheet, answer_long, answer_delivered}
 use Rattle.delivery.proofs.granted.deliver.Goals as goal
 use Rattle.delivery.proofs.granted.deliver.Goals.{Else-not-good_store, Else-model-ge-MODELS, In_ok-sums}
 
--- where the look finds nothing, no granted sheet is faulty
-through : (grants : List ℕ) (m : ℕ) (b : List ℕ) → alone 0 ≡ found grants m b → first_faulty grants m b ≡ sheets
-through grants m b e = ⊎_elim
-    (λ (h : first_faulty grants m b < sheets).
-    let fault : entry_fault b (first_faulty grants m b) ≡ 0 = sym (ap (λ (t : Told). t.code) (simp (lt-ltb _ _ h) at e)) in
-    absurd (first_fault grants m b h fault))
-    (λ (h : sheets ≤ first_faulty grants m b). omega (arith, first_le (faulty grants m b) sheets))
-    (cases_lt (first_faulty grants m b) sheets)
-
--- and where it finds a refusal, that one is the answer
+-- where the look finds a refusal, that one is the answer
 refused : (grants : List ℕ) (m : ℕ) (b : List ℕ) (room : ℕ) (refusal : Refusal) → m < models → good_store b ≡ true → told {A = ⊤} (Err refusal) ≡ found grants m b
     → answer grants m b room ≡ delivery_told (Err refusal)
 refused grants m b room refusal known taken e = ⊎_elim
@@ -76,8 +64,10 @@ record Through (c : In_ok-sums) : Type 0 where
 
 past : (c : In_ok-sums) → Through c
 past c =
-    let all = c.in_ok-sums.ensures {u = tt} in
-    record { sound = through c.args.grants.now c.args.model c.args.store.now all.refused; sums = all.summed; total = ap (λ (x : Sums). x.total) all.summed }
+    let seen = (c.in_ok-sums.ensures {u = tt}).summed in
+    let sound : first_faulty c.args.grants.now c.args.model c.args.store.now ≡ sheets = sym (ap (λ (x : Checked). x.stop) seen) in
+    let whole = seen ∙ ap (checked_to c.args.grants.now c.args.model c.args.store.now) sound in
+    record { sound = sound; sums = ap (λ (x : Checked). record { count = x.count; total = x.total }) whole; total = ap (λ (x : Checked). x.total) whole }
 
 pub returns-in_err-sums : goal.returns-in_err-sums
 returns-in_err-sums c =
