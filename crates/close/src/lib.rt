@@ -3,6 +3,7 @@
 
 ghost use Rattle.std.specs.Prelude.{◌≡◌, ◌<◌};
 ghost use Rattle.rules.specs.Ranges.{ticks};
+ghost use Rattle.rules.specs.Refusal.{told, alone};
 ghost use Rattle.group.specs.Close.{closed_group, close_answer};
 ghost use Rattle.close.specs.Settled.{settled_by};
 
@@ -66,6 +67,19 @@ pub fn after_close(mut group: Group) -> Group
 {
     close_tick(&mut group);
     group
+}
+
+// A close taken where the group stands; a refusal leaves it as it was.
+#[tactic(auto, unfolding(group::specs::Close::close_answer))]
+pub fn take(g: &mut Group) -> Result<(), Refusal>
+    ensures answer { told result ≡ alone (close_answer g.old).code }
+    ensures group { g.new ≡ (close_answer g.old).group }
+{
+    if g.closed >= TICKS {
+        return Err(Refusal::NoTickLeft);
+    }
+    close_tick(g);
+    Ok(())
 }
 
 // kept: a group by value, and a number beside it, are the C interface

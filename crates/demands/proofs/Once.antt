@@ -93,6 +93,8 @@ pub record PromisesDetermine : Type 0 where
       → Once (Result ⊤ Refusal × Group) (λ r. (told r.0 ≡ alone (request_answer g kind n).code) × (r.1 ≡ (request_answer g kind n).group))
   -- request::request_at, ferrulebee_request_at
   pub request_at : (g : Group) (kind n : ℕ) → Once (ℕ × Group) (λ r. (r.0 ≡ (request_answer g kind n).code) × (r.1 ≡ (request_answer g kind n).group))
+  -- close::take
+  pub take_close : (g : Group) → Once (Result ⊤ Refusal × Group) (λ r. (told r.0 ≡ alone (close_answer g).code) × (r.1 ≡ (close_answer g).group))
   -- close::close, ferrulebee_close
   pub close : (g : Group) → Once Answer (λ r. r ≡ close_answer g)
   -- Group::read
@@ -270,6 +272,7 @@ promises_determine = record {
   request = λ g kind n. one (request_answer g kind n);
   take = λ g kind n r t p q i. (told_once (p.0 ∙ sym q.0) i, (p.1 ∙ sym q.1) i);
   request_at = λ g kind n. two (request_answer g kind n).code (request_answer g kind n).group;
+  take_close = λ g r t p q i. (told_once (p.0 ∙ sym q.0) i, (p.1 ∙ sym q.1) i);
   close = λ g. one (close_answer g);
   read = read_once;
   models = count_once;
