@@ -7,8 +7,8 @@ mod keep;
 use answer::Failed;
 use ask::input::Input;
 use keep::Keeper;
+use lines::has_arguments;
 use lines::page::Page;
-use std::env::{Env, FillError};
 use std::io::Read;
 use std::rt::Files;
 
@@ -37,15 +37,9 @@ fn converse<H: Files + Print, R: Read>(rt: &H, reader: &mut R, page: &mut Page<H
     }
 }
 
-// Whether the program was started with an argument.
-fn has_argument<E: Env>(rt: &E) -> bool {
-    let mut word = [0u8; 1];
-    !matches!(rt.arg(1, &mut word), Err(FillError::NotPresent))
-}
-
 fn main(rt: HostRuntime) {
     let mut page = Page::new(&rt);
-    if has_argument(&rt) {
+    if has_arguments(&rt, 1) {
         answer::usage(&mut page);
     } else {
         converse(&rt, &mut rt.stdin(), &mut page);

@@ -1,9 +1,10 @@
-// What the programs share: bytes until the input ends, a page of lines, and the line of a refusal.
+// What the programs share: their arguments, bytes until the input ends, a page of lines, and the line of a refusal.
 #![tactic(auto)]
 
 pub mod page;
 pub mod refused;
 
+use std::env::{Env, FillError};
 use std::io::Read;
 
 // Reads until the buffer is full, the input ends or a read fails, and answers the bytes that came.
@@ -17,4 +18,10 @@ pub fn read_full<'a, R: Read>(reader: &mut R, buffer: &'a mut [u8]) -> &'a [u8] 
         done += came;
     }
     &buffer[..done]
+}
+
+// Whether the program was started with so many arguments or more.
+pub fn has_arguments<E: Env>(rt: &E, count: usize) -> bool {
+    let mut word = [0u8; 1];
+    !matches!(rt.arg(count, &mut word), Err(FillError::NotPresent))
 }

@@ -1,5 +1,6 @@
 // Which models and sheets the arguments ask for: all, one model's, or one pair.
 
+use lines::has_arguments;
 use std::env::{Env, FillError};
 use std::ops::Range;
 use std::str;
@@ -36,17 +37,11 @@ fn one_or_all<E: Env>(rt: &E, i: usize, limit: u32) -> Option<Range<u32>> {
     }
 }
 
-// Whether the program was started with so many arguments or more.
-fn has<E: Env>(rt: &E, i: usize) -> bool {
-    let mut word = [0; 1];
-    !matches!(rt.arg(i, &mut word), Err(FillError::NotPresent))
-}
-
 // None where the arguments can't be taken.
 pub fn arguments<E: Env>(rt: &E) -> Option<Asked> {
     let models = one_or_all(rt, 1, rules::MODELS)?;
     let sheets = one_or_all(rt, 2, rules::SHEETS)?;
-    if has(rt, 3) {
+    if has_arguments(rt, 3) {
         return None;
     }
     Some(Asked { models, sheets })
