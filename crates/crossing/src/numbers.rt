@@ -48,9 +48,9 @@ pub fn of_delivery(delivery: Result<u32, Refusal>) -> Delivered
             place: 0,
             length,
         },
-        Err(refusal) => Delivered {
-            code: refusal.number(),
-            place: refusal.place(),
+        Err(refused) => Delivered {
+            code: refused.number(),
+            place: refused.place(),
             length: 0,
         },
     }
