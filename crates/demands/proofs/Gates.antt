@@ -33,6 +33,7 @@ use Rattle.demands.specs.Calls.{Call, Run, start_fresh, start_book, reach}
 use Rattle.demands.specs.Gated.{Gated}
 use Rattle.demands.specs.Ours.{ours}
 use Rattle.demands.proofs.Counted.{book_stands}
+use Rattle.demands.proofs.Judgement.{said_granted}
 use Rattle.demands.proofs.Moving.{moving, standing, of, asked, reach_moving, fresh_number, fresh_reach, run_number}
 use Rattle.demands.proofs.Parts.{delivered_holds}
 
@@ -66,7 +67,7 @@ reached_gated number asks moves same =
       good = gate.closed_good number moves;
       judge = λ m s l b short_m short_s.
           let j = gate.judge_agrees number moves m s l b short_m short_s in
-          (λ x. (says m s l b).0 (j.0 x), λ y. j.1 ((says m s l b).1 y));
+          said_granted (λ x. (says m s l b).0 (j.0 x), λ y. j.1 ((says m s l b).1 y));
       accepts = λ kind n.
           let w = gate.accepts_well_formed number moves kind n in
           let c = request_code g kind n in

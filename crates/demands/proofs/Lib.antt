@@ -4,6 +4,7 @@ pub mod Closes
 pub mod Counted
 pub mod Ended
 pub mod Gates
+pub mod Judgement
 pub mod Lines
 pub mod Moving
 pub mod Once

@@ -15,12 +15,8 @@ use Rattle.rules.specs.Refusals.{late_now, long_model, long_sheet, bad_model, ba
 use Rattle.rules.specs.Refusal.{refusal_number}
 use Rattle.rules.specs.declared.refusal.Refusal.{Refusal as Reason}
 use Rattle.rules.specs.declared.refusal.Refusal.TheVariants.{LateNow, LongModel, LongSheet, BadModel, BadSheet}
-use Rattle.formula.specs.Formula.{History}
-use Rattle.formula.specs.Judged.{Judged, granted_by_add, granted_by_join, none as no-moment, strict_leave, strict_remove}
 use Rattle.formula.specs.Verdict.{verdict}
-use Rattle.formula.proofs.Judged.{judged}
 use Rattle.formula.specs.declared.Verdict.{Verdict}
-use Rattle.formula.specs.declared.Verdict.TheVariants.{Granted, Denied}
 use Rattle.strip.specs.declared.Side.{Side}
 use Rattle.strip.specs.declared.Side.TheVariants.{Model, Sheet}
 use Rattle.strip.specs.Good.{good_place, first_bad}
@@ -30,20 +26,14 @@ use Rattle.judge.specs.Judge.{judged_by}
 use Rattle.wire.proofs.Words.{length_words}
 use Rattle.wire.specs.Words.{words_in}
 use Rattle.loader.specs.Judge.{whole_strip, packed, judged_from}
+use Rattle.demands.specs.Judgement.{judgement_told, packed_judgement}
 use Rattle.demands.specs.Lines.{Refusal, at, plain, none, Line, line, first_met, Refuses}
 use Rattle.demands.specs.Refusals.{strip_lines, judge_lines, bytes_lines, refused_verdict}
 use Rattle.demands.proofs.Lines.{any, first_each, first_each_last}
 
--- a verdict of two histories is no refusal: no line of Judged is one
-answered : (model sheet : History) (now : ℕ) → refused_verdict (Ok (verdict model sheet now)) ≡ none
-answered model sheet now = go (judged model sheet now)
-  where
-    go : {v : Result Verdict Reason} → Judged model sheet now v → refused_verdict v ≡ none
-    go (granted_by_add t g l a) = refl
-    go (granted_by_join t g l a) = refl
-    go (no-moment h) = refl
-    go (strict_leave t e g l r a) = refl
-    go (strict_remove t e g l r a) = refl
+-- the refusal in the call's own answer
+abbrev told_refusal : Result Verdict Reason → Refusal
+told_refusal answer = refused_verdict (judgement_told answer)
 
 -- ---- the strips
 
@@ -79,15 +69,15 @@ module _ (m s : List ℕ) (now : ℕ) where
 -- ---- the judge
 
 -- 13 and 14, or a verdict
-strips_order : (d e : Bool) (x y : ℕ) (v : Result Verdict Reason) → refused_verdict v ≡ none
-    → refused_verdict (cond d (Err (BadModel x)) (cond e (Err (BadSheet y)) v)) ≡ cond d (at bad_model x) (cond e (at bad_sheet y) none)
-strips_order true e x y v a = refl
-strips_order false true x y v a = refl
-strips_order false false x y v a = a
+strips_order : (d e : Bool) (x y : ℕ) (v : Verdict)
+    → told_refusal (cond d (Err (BadModel x)) (cond e (Err (BadSheet y)) (Ok v))) ≡ cond d (at bad_model x) (cond e (at bad_sheet y) none)
+strips_order true e x y v = refl
+strips_order false true x y v = refl
+strips_order false false x y v = refl
 
 -- 10, 11 and 12 before
-judge_order : (a b c : Bool) (v : Result Verdict Reason) (rest : List Line) → (a ≡ false → b ≡ false → c ≡ false → refused_verdict v ≡ first_met rest)
-    → refused_verdict (cond a (Err LateNow) (cond b (Err LongModel) (cond c (Err LongSheet) v)))
+judge_order : (a b c : Bool) (v : Result Verdict Reason) (rest : List Line) → (a ≡ false → b ≡ false → c ≡ false → told_refusal v ≡ first_met rest)
+    → told_refusal (cond a (Err LateNow) (cond b (Err LongModel) (cond c (Err LongSheet) v)))
     ≡ first_met (line a (plain late_now) ∷ line b (plain long_model) ∷ line c (plain long_sheet) ∷ rest)
 unfolding first_met
 judge_order true b c v rest e = refl
@@ -96,31 +86,29 @@ judge_order false false true v rest e = refl
 judge_order false false false v rest e = e refl refl refl
 
 module _ (m s : List ℕ) (now : ℕ) where
-  strips_told : refused_verdict (cond (ltb (first_bad Model now m) (length m)) (Err (BadModel (first_bad Model now m)))
+  strips_told : told_refusal (cond (ltb (first_bad Model now m) (length m)) (Err (BadModel (first_bad Model now m)))
       (cond (ltb (first_bad Sheet now s) (length s)) (Err (BadSheet (first_bad Sheet now s))) (Ok (verdict (history_of m) (history_of s) now))))
       ≡ first_met (strip_lines Model now m bad_model ++ strip_lines Sheet now s bad_sheet)
   strips_told =
       strips_order (ltb (first_bad Model now m) (length m)) (ltb (first_bad Sheet now s) (length s)) (first_bad Model now m) (first_bad Sheet now s)
-      (Ok (verdict (history_of m) (history_of s) now)) (answered (history_of m) (history_of s) now)
+      (verdict (history_of m) (history_of s) now)
       ∙ sym (strips_first m s now)
 
-  judge_first : refused_verdict (judged_by m s now) ≡ first_met (judge_lines m s now)
+  judge_first : told_refusal (judged_by m s now) ≡ first_met (judge_lines m s now)
   judge_first = judge_order (ltb ticks now) (ltb events (length m)) (ltb events (length s)) _ _ (λ a b c. strips_told)
 
 -- a refused verdict has no evidence, and goes to C as its number and place
-no_evidence : (v : Result Verdict Reason) (m s : List ℕ) → ((refused_verdict v).number ≡ 0 → ⊥) → evidence_of v m s ≡ []
-no_evidence (Ok (Granted moment)) m s r = absurd (r refl)
-no_evidence (Ok (Denied cause)) m s r = absurd (r refl)
+no_evidence : (v : Result Verdict Reason) (m s : List ℕ) → ((told_refusal v).number ≡ 0 → ⊥) → evidence_of v m s ≡ []
+no_evidence (Ok verdict) m s r = absurd (r refl)
 no_evidence (Err refusal) m s r = refl
 
-packed_verdict : (v : Result Verdict Reason) → packed v ≡ cond (eqb (refused_verdict v).number 0) (packed v) ((refused_verdict v).number * 2 ^ 32 + (refused_verdict v).place)
-packed_verdict (Ok (Granted moment)) = refl
-packed_verdict (Ok (Denied cause)) = refl
+packed_verdict : (v : Result Verdict Reason) → packed v ≡ cond (eqb (told_refusal v).number 0) (packed_judgement (judgement_told v)) ((told_refusal v).number * 2 ^ 32 + (told_refusal v).place)
+packed_verdict (Ok verdict) = refl
 packed_verdict (Err refusal) =
     ⊎_elim (λ (t : eqb (refusal_number refusal) 0 ≡ true). simp t) (λ (f : eqb (refusal_number refusal) 0 ≡ false). simp f) (either (eqb (refusal_number refusal) 0))
 
 packed_cases : (a b c : Bool) (v : Result Verdict Reason) → let w = cond a (Err LateNow) (cond b (Err LongModel) (cond c (Err LongSheet) v)) in
-    packed w ≡ cond (eqb (refused_verdict w).number 0) (packed v) ((refused_verdict w).number * 2 ^ 32 + (refused_verdict w).place)
+    packed w ≡ cond (eqb (told_refusal w).number 0) (packed_judgement (judgement_told v)) ((told_refusal w).number * 2 ^ 32 + (told_refusal w).place)
 packed_cases true b c v = refl
 packed_cases false true c v = refl
 packed_cases false false true v = refl
@@ -132,16 +120,16 @@ whole_short b w =
     omega (arith, length_words b (length b / 4))
 
 module _ (m s : List ℕ) (now : ℕ) where
-  pub judge_refuses : Refuses (judge_lines m s now) (refused_verdict (judged_by m s now)) (evidence_of (judged_by m s now) m s ≡ [])
+  pub judge_refuses : Refuses (judge_lines m s now) (refused_verdict (judgement_told (judged_by m s now))) (evidence_of (judged_by m s now) m s ≡ [])
   judge_refuses = record { first = judge_first m s now; unchanged = no_evidence (judged_by m s now) m s }
 
   -- whole words, and not too many, are a strip that is not too long
-  bytes_first : refused_verdict (judged_from m s now) ≡ first_met (bytes_lines m s now)
+  bytes_first : told_refusal (judged_from m s now) ≡ first_met (bytes_lines m s now)
   bytes_first = judge_order (ltb ticks now) (not (whole_strip (length m))) (not (whole_strip (length s))) _ _
       (λ a b c. simp (a, le-ltb _ _ (whole_short m (not-false _ b)), le-ltb _ _ (whole_short s (not-false _ c))) (strips_told (words_in m) (words_in s) now))
 
   -- a refusal goes to C as its number and place; what isn't refused is the judge's verdict on the words
   pub bytes_packed : let refusal = first_met (bytes_lines m s now) in
-      packed (judged_from m s now) ≡ cond (eqb refusal.number 0) (packed (judged_by (words_in m) (words_in s) now)) (refusal.number * 2 ^ 32 + refusal.place)
-  bytes_packed = subst (λ (r : Refusal). packed (judged_from m s now) ≡ cond (eqb r.number 0) (packed (judged_by (words_in m) (words_in s) now)) (r.number * 2 ^ 32 + r.place))
+      packed (judged_from m s now) ≡ cond (eqb refusal.number 0) (packed_judgement (judgement_told (judged_by (words_in m) (words_in s) now))) (refusal.number * 2 ^ 32 + refusal.place)
+  bytes_packed = subst (λ (r : Refusal). packed (judged_from m s now) ≡ cond (eqb r.number 0) (packed_judgement (judgement_told (judged_by (words_in m) (words_in s) now))) (r.number * 2 ^ 32 + r.place))
       bytes_first (packed_cases (ltb ticks now) (not (whole_strip (length m))) (not (whole_strip (length s))) (judged_by (words_in m) (words_in s) now))

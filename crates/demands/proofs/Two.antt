@@ -6,10 +6,11 @@ use Rattle.book.proofs.Promise.{write_then_read, read_then_write}
 use Rattle.demands.specs.Two.{DemandTwo}
 use Rattle.demands.specs.Ours.{ours}
 use Rattle.demands.proofs.Gates.{fresh_gated, book_gated, mask_reads, mask_ends}
+use Rattle.demands.proofs.Judgement.{said_granted, said_judged}
 
 pub demand_two : DemandTwo ours
 demand_two = record {
-  judge = λ m s now a. (judge_grants m s now a, judge_means m s now a);
+  judge = λ m s now a. (said_granted (judge_grants m s now a), said_judged (judge_means m s now a));
   gate = fresh_gated;
   book = book_gated;
   written = λ T number ws buffer list e fits.

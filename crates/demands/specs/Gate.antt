@@ -1,14 +1,13 @@
 -- Any gate, over whatever it keeps of a group: what each of its calls answers, and what it leaves. The three demands are stated over any gate, so that
 -- they can be asked of a wrong one too.
-use Rattle.std.specs.Prelude.{List, ℕ, Result}
-use Rattle.rules.specs.declared.refusal.Refusal.{Refusal}
+use Rattle.std.specs.Prelude.{List, ℕ}
 use Rattle.book.specs.declared.BookWritten.{BookWritten}
-use Rattle.formula.specs.declared.Verdict.{Verdict}
 use Rattle.group.specs.Read.{ReadAnswer}
 use Rattle.group.specs.declared.CountAnswer.{CountAnswer}
 use Rattle.span.specs.declared.SpansAnswer.{SpansAnswer}
 use Rattle.station.specs.declared.MaskAnswer.{MaskAnswer}
 use Rattle.delivery.specs.Delivery.{Delivery}
+use Rattle.demands.specs.Judgement.{Judgement}
 
 -- a refusal's number, 0 where there is none, and its place; and the group afterwards
 pub record Left (State : Type 0) : Type 0 where
@@ -32,7 +31,7 @@ pub record Gate (State : Type 0) : Type 0 where
   pub deliver : State → ℕ → List ℕ → List ℕ → Delivery
   pub delivered : State → ℕ → List ℕ → List ℕ → List ℕ
   -- the judge, with a model's strip, a sheet's strip and now: its verdict, its evidence, and from C, with the strips in bytes
-  pub judge : List ℕ → List ℕ → ℕ → Result Verdict Refusal
+  pub judge : List ℕ → List ℕ → ℕ → Judgement
   pub evidence : List ℕ → List ℕ → ℕ → List ℕ
   pub judge_bytes : List ℕ → List ℕ → ℕ → ℕ
   -- the spans, with a list besides: the answer, and the list afterwards

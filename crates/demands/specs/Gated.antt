@@ -1,6 +1,6 @@
 -- What demand 2 says of a run, wherever it stands. Everything is said of the calls' own record of the run: how many ticks it closed, which events it
 -- accepted. Nothing is read off the group.
-use Rattle.std.specs.Prelude.{◌≡◌, List, ◌↔◌, ℕ, ◌≤◌, ◌<◌, length, Ok}
+use Rattle.std.specs.Prelude.{◌≡◌, List, ◌↔◌, ℕ, ◌≤◌, ◌<◌, length}
 use Rattle.base.specs.HowMany.{how_many}
 use Rattle.rules.specs.Ranges.{models, sheets, events}
 use Rattle.formula.specs.Formula.{History, Grant}
@@ -17,6 +17,7 @@ use Rattle.history.specs.WellFormed.{WellFormed}
 use Rattle.demands.specs.Calls.{Run}
 use Rattle.demands.specs.Delivered.{Holds}
 use Rattle.demands.specs.Gate.{Gate}
+use Rattle.demands.specs.Judgement.{Said}
 use Rattle.group.specs.Read.{Granted, Denied}
 
 module _ {State : Type 0} (r : Run State) where
@@ -46,7 +47,7 @@ pub record Gated {State : Type 0} (G : Gate State) (r : Run State) : Type 0 wher
   -- the judge, asked for the history
   pub good : (side : Side) (n : ℕ) → n < range side → Good side r.closed (strip r side n)
   pub judge : (m s : ℕ) → m < models → s < sheets → length (strip r Model m) ≤ events → length (strip r Sheet s) ≤ events
-      → ((x : Moment) × (G.judge (strip r Model m) (strip r Sheet s) r.closed ≡ Ok (VerdictGranted x))) ↔ Granting r m s
+      → ((x : Moment) × (G.judge (strip r Model m) (strip r Sheet s) r.closed ≡ Said (VerdictGranted x))) ↔ Granting r m s
   -- an event is accepted exactly when it is well-formed
   pub accepts : (kind n : ℕ) → ((G.request r.group kind n).code ≡ 0) ↔ WellFormed r.closed r.events kind n
   -- a delivery

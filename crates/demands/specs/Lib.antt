@@ -3,6 +3,7 @@ pub mod Calls
 pub mod Delivered
 pub mod Gate
 pub mod Gated
+pub mod Judgement
 pub mod Lines
 pub mod One
 pub mod Ours

@@ -6,12 +6,12 @@
 use Rattle.std.specs.Prelude.{◌≡◌, false, cond, List, [], ◌∷◌, ◌⊎◌, ℕ, ◌+◌, ◌*◌, ◌^◌, eqb, length, get_or}
 use Rattle.rules.specs.Refusals.{bad_kind, bad_number, no_tick_left, second_event, already_in, not_in, bad_list, bad_group, late_now, long_model, long_sheet, bad_model, bad_sheet, bad_length, bad_total, bad_header, bad_count, bad_record, not_rising, ill_formed, short_buffer, short_list, bad_store, not_in_store, bad_entry, delivery_too_long, too_many_spans}
 use Rattle.wire.specs.Words.{words_in}
-use Rattle.loader.specs.Judge.{packed}
 use Rattle.group.specs.Fresh.{fresh_group}
 use Rattle.group.specs.Read.{read_number, grant_of}
 use Rattle.group.specs.declared.Group.{Group}
 use Rattle.delivery.specs.Delivery.{Delivered}
 use Rattle.demands.specs.Gate.{Gate}
+use Rattle.demands.specs.Judgement.{packed_judgement}
 use Rattle.demands.specs.Lines.{at, none, plain, Line, unmet, first_met, Met, NoneMet, Refuses}
 use Rattle.demands.specs.Refusals.{fresh_lines, request_lines, close_lines, read_lines, count_lines, mask_lines, judge_lines, bytes_lines, spans_lines, refused_verdict, reader_lines, writer_lines, delivery_lines, refused_delivery}
 
@@ -36,7 +36,7 @@ pub record DemandOne (G : Gate Group) : Type 0 where
   -- a refused judgement has no evidence; from C it is the number with its place, and else the judge's verdict on the words
   pub judge : (m s : List ℕ) (now : ℕ) → Refuses (judge_lines m s now) (refused_verdict (G.judge m s now)) (G.evidence m s now ≡ [])
   pub judge_of_bytes : (m s : List ℕ) (now : ℕ) → let refusal = first_met (bytes_lines m s now) in
-      G.judge_bytes m s now ≡ cond (eqb refusal.number 0) (packed (G.judge (words_in m) (words_in s) now)) (refusal.number * 2 ^ 32 + refusal.place)
+      G.judge_bytes m s now ≡ cond (eqb refusal.number 0) (packed_judgement (G.judge (words_in m) (words_in s) now)) (refusal.number * 2 ^ 32 + refusal.place)
   -- refused spans leave every number of the list
   pub spans : (m s : List ℕ) (now : ℕ) (list : List ℕ) → let a = G.spans m s now list in
       Refuses (spans_lines m s now (length list)) (at a.code a.place) (G.spans_left m s now list ≡ list)

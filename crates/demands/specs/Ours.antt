@@ -17,6 +17,7 @@ use Rattle.span.specs.Answer.{spans_answer, list_after}
 use Rattle.station.specs.Mask.{mask_answer}
 use Rattle.delivery.specs.Answer.{answer, buffer_after}
 use Rattle.demands.specs.Gate.{Left, Gate}
+use Rattle.demands.specs.Judgement.{judgement_told}
 
 -- a fresh group, a request and a close name no place
 abbrev pub left : Answer → Left Group
@@ -37,7 +38,7 @@ ours = record {
   mask = mask_answer;
   deliver = λ g m store out. answer g.grants m store (length out);
   delivered = λ g m store out. buffer_after g.grants m store out;
-  judge = judged_by;
+  judge = λ m s now. judgement_told (judged_by m s now);
   evidence = λ m s now. evidence_of (judged_by m s now) m s;
   judge_bytes = λ m s now. packed (judged_from m s now);
   spans = λ m s now list. spans_answer m s now (length list);

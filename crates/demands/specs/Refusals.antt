@@ -1,17 +1,13 @@
 -- The table of refusals and its order (docs/RULES.md, sections 11.1 and 11.2), call by call: "request 1, 2, 3, 4, then 5 or 6; close 3; read and count of models 2; list 7, 2;
 -- judge 10 to 14; reader 20 to 23, 28, then record by record 24, 25, 26; writer 22, 27, then the records likewise; delivery 2, 31, then granted
 -- sheets by rising number 32, 33, then 34. 32 and 33 name the sheet." Beside them the spans (section 7).
-use Rattle.std.specs.Prelude.{not, ◌&&◌, ◌||◌, List, [], ◌∷◌, ◌++◌, ℕ, ◌*◌, eqb, ltb, leb, length, get_or, Result, Ok, Err}
+use Rattle.std.specs.Prelude.{not, ◌&&◌, ◌||◌, List, [], ◌∷◌, ◌++◌, ℕ, ◌*◌, eqb, ltb, leb, length, get_or}
 use Rattle.rules.specs.Kinds.{LR}
 use Rattle.rules.specs.Ranges.{models, sheets, groups, ticks, events, book_header, longest_book}
 use Rattle.rules.specs.Refusals.{bad_kind, bad_number, no_tick_left, second_event, already_in, not_in, bad_list, bad_group, late_now, long_model, long_sheet, bad_model, bad_sheet, bad_length, bad_total, bad_header, bad_count, bad_record, not_rising, ill_formed, short_buffer, short_list, bad_store, not_in_store, bad_entry, delivery_too_long, too_many_spans}
-use Rattle.rules.specs.Refusal.{refusal_number, refusal_place}
-use Rattle.rules.specs.declared.refusal.Refusal.{Refusal as Reason}
 use Rattle.strip.specs.declared.Side.{Side}
 use Rattle.strip.specs.declared.Side.TheVariants.{Model, Sheet}
 use Rattle.strip.specs.Good.{good_place}
-use Rattle.formula.specs.declared.Verdict.{Verdict}
-use Rattle.formula.specs.declared.Verdict.TheVariants as verdict
 use Rattle.wire.specs.Words.{words_in}
 use Rattle.loader.specs.Judge.{whole_strip}
 use Rattle.span.specs.Answer.{spans_in}
@@ -28,6 +24,8 @@ use Rattle.format.specs.Header.{length_of, beyond, total_in, ticks_in, count_in,
 use Rattle.book.specs.Read.{records_in}
 use Rattle.records.specs.Records.{outside, carrier_of, last_of, breaks}
 use Rattle.tick.specs.Tick.{not_greater}
+use Rattle.demands.specs.Judgement.{Judgement}
+use Rattle.demands.specs.Judgement as judgement
 use Rattle.demands.specs.Lines.{Refusal, at, plain, none, Line, line, each_below}
 
 -- ---- the group
@@ -84,10 +82,9 @@ bytes_lines m s now =
 abbrev pub spans_lines : List ℕ → List ℕ → ℕ → ℕ → List Line
 spans_lines m s now room = judge_lines m s now ++ (line (ltb room (2 * length (spans_in m s now))) (plain too_many_spans) ∷ [])
 
-abbrev pub refused_verdict : Result Verdict Reason → Refusal
-refused_verdict (Ok (verdict.Granted moment)) = none
-refused_verdict (Ok (verdict.Denied cause)) = none
-refused_verdict (Err refusal) = at (refusal_number refusal) (refusal_place refusal)
+abbrev pub refused_verdict : Judgement → Refusal
+refused_verdict (judgement.Said verdict) = none
+refused_verdict (judgement.Refused number place) = at number place
 
 -- ---- the book
 

@@ -10,6 +10,7 @@ use Rattle.bits.specs.Bit.{bit}
 use Rattle.formula.specs.Formula.{Grant}
 use Rattle.formula.specs.Judged.{Judged}
 use Rattle.formula.specs.declared.Moment.{Moment}
+use Rattle.formula.specs.declared.Verdict.{Verdict}
 use Rattle.formula.specs.declared.Verdict.TheVariants.{Granted as VerdictGranted}
 use Rattle.strip.specs.History.{history_of}
 use Rattle.judge.specs.Judge.{StripsAccepted}
@@ -19,6 +20,7 @@ use Rattle.format.specs.Header.{ticks_in, count_in, number_in}
 use Rattle.demands.specs.Calls.{Call, start_fresh, start_book, reach}
 use Rattle.demands.specs.Gate.{Gate}
 use Rattle.demands.specs.Gated.{Gated}
+use Rattle.demands.specs.Judgement.{Said}
 use Rattle.group.specs.Read.{Granted}
 
 -- what a reader makes of a book of T, number and words: the same ones
@@ -32,7 +34,8 @@ pub record ReadBack {State : Type 0} (G : Gate State) (T number : ℕ) (ws b lis
 pub record DemandTwo {State : Type 0} (G : Gate State) : Type 0 where
   -- from the history: of any strips that the judge takes
   pub judge : (m s : List ℕ) (now : ℕ) → StripsAccepted m s now
-      → (((x : Moment) × (G.judge m s now ≡ Ok (VerdictGranted x))) ↔ Grant (history_of m) (history_of s) now) × Judged (history_of m) (history_of s) now (G.judge m s now)
+      → (((x : Moment) × (G.judge m s now ≡ Said (VerdictGranted x))) ↔ Grant (history_of m) (history_of s) now)
+      × ((v : Verdict) × (G.judge m s now ≡ Said v) × Judged (history_of m) (history_of s) now (Ok v))
   -- from the running gate: of any group that calls have reached from fresh
   pub gate : (number : ℕ) (calls : List Call) → Gated G (reach G (start_fresh G number) calls)
   -- the same from an accepted book, and any calls on the group that it was read into

@@ -24,6 +24,7 @@ use Rattle.wire.specs.Word.{le32, bytes32}
 use Rattle.wire.specs.Words.{words, bytes}
 use Rattle.group.specs.declared.Group.{Group}
 use Rattle.demands.specs.Gate.{Gate}
+use Rattle.demands.specs.Judgement.{packed_judgement}
 use Rattle.demands.specs.One.{DemandOne}
 use Rattle.demands.specs.Two.{DemandTwo}
 use Rattle.demands.specs.Ours.{ours}
@@ -52,11 +53,13 @@ accepted = record {
 }
 
 -- the strict leave of tick 8, and nothing else
-ended_by_leave : (G : Gate Group) → DemandTwo G → packed (G.judge model sheet now) ≡ (104 * 2 ^ 32 + 8)
+ended_by_leave : (G : Gate Group) → DemandTwo G → packed_judgement (G.judge model sheet now) ≡ (104 * 2 ^ 32 + 8)
 unfolding first since inside liberal by_add by_join grant latest earliest granted_at denied verdict history_of
-ended_by_leave G d = ap packed (judged_is (history_of model) (history_of sheet) now (d.judge model sheet now accepted).1)
+ended_by_leave G d =
+    let x = (d.judge model sheet now accepted).1 in
+    ap packed_judgement x.1 ∙ ap packed (judged_is (history_of model) (history_of sheet) now x.2)
 
-says_other : (G : Gate Group) (n : ℕ) → packed (G.judge model sheet now) ≡ n → eqb n (104 * 2 ^ 32 + 8) ≡ false → DemandTwo G → ⊥
+says_other : (G : Gate Group) (n : ℕ) → packed_judgement (G.judge model sheet now) ≡ n → eqb n (104 * 2 ^ 32 + 8) ≡ false → DemandTwo G → ⊥
 says_other G n e f d = eqb-false n (104 * 2 ^ 32 + 8) f (sym e ∙ ended_by_leave G d)
 
 -- what each wrong judge says instead

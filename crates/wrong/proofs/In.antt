@@ -4,9 +4,6 @@ use mathlib.Core.Bool.{true, not}
 use mathlib.Core.List.{List, [], ◌∷◌}
 use Prim.Native.Nat.{ℕ, ◌<◌}
 use lib.ListN.{length}
-use Rattle.std.specs.Prelude.{Result}
-use Rattle.rules.specs.declared.refusal.Refusal.{Refusal}
-use Rattle.formula.specs.declared.Verdict.{Verdict}
 use Rattle.group.specs.Read.{ReadAnswer}
 use Rattle.group.specs.declared.Group.{Group}
 use Rattle.station.specs.declared.MaskAnswer.{MaskAnswer}
@@ -18,6 +15,7 @@ use Rattle.history.proofs.Agreed.{reached_agrees}
 use Rattle.history.proofs.Sides.{even, in_on}
 use Rattle.demands.specs.Calls.{Call, request, close, read, count, deliver, Run, start_fresh, next, reach}
 use Rattle.demands.specs.Gate.{Gate}
+use Rattle.demands.specs.Judgement.{Judgement}
 use Rattle.demands.specs.Ours.{ours}
 use Rattle.demands.proofs.Gates.{fresh_gated}
 use Rattle.demands.proofs.Moving.{moving, fresh_reach}
@@ -26,7 +24,7 @@ use Rattle.wrong.proofs.Story.{Turn, calls_of, tell_all, all_fit, begins, stands
 
 -- a gate with our fresh groups, requests and closes
 module _ (reads : Group → ℕ → ℕ → ReadAnswer) (masks : List Group → ℕ → ℕ → MaskAnswer) (delivers : Group → ℕ → List ℕ → List ℕ → Delivery)
-    (delivered : Group → ℕ → List ℕ → List ℕ → List ℕ) (judges : List ℕ → List ℕ → ℕ → Result Verdict Refusal) where
+    (delivered : Group → ℕ → List ℕ → List ℕ → List ℕ) (judges : List ℕ → List ℕ → ℕ → Judgement) where
   abbrev pub moves : Gate Group
   moves = replacing ours.fresh ours.request ours.close reads masks delivers delivered judges ours.judge_bytes
 

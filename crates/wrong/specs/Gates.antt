@@ -1,9 +1,7 @@
 -- Wrong gates. Each is ours but for what its comment says.
-use Rattle.std.specs.Prelude.{cond, ◌&&◌, List, [], ◌∷◌, ◌++◌, ℕ, zero, suc, ◌+◌, ◌-◌, ◌^◌, eqb, leb, length, take, drop, Result, Ok, Err}
+use Rattle.std.specs.Prelude.{cond, ◌&&◌, List, [], ◌∷◌, ◌++◌, ℕ, zero, suc, ◌+◌, ◌-◌, ◌^◌, eqb, leb, length, take, drop}
 use Rattle.rules.specs.Kinds.{SR}
 use Rattle.rules.specs.Ranges.{sheets}
-use Rattle.rules.specs.declared.refusal.Refusal.{Refusal}
-use Rattle.rules.specs.declared.refusal.Refusal.TheVariants.{LateNow}
 use Rattle.rules.specs.Refusals.{bad_kind, bad_number, no_tick_left, bad_list, bad_group, late_now, bad_length, bad_header, bad_store}
 use Rattle.wire.specs.Word.{le32, bytes32}
 use Rattle.replay.specs.Replay.{counted}
@@ -12,10 +10,10 @@ use Rattle.formula.specs.Formula.{History}
 use Rattle.formula.specs.Ticks.{strict}
 use Rattle.formula.specs.Verdict.{latest, earliest}
 use Rattle.formula.specs.declared.Cause.TheVariants.{None, StrictLeave, StrictRemove}
-use Rattle.formula.specs.declared.Verdict.{Verdict}
 use Rattle.formula.specs.declared.Verdict.TheVariants as verdict
 use Rattle.strip.specs.History.{history_of}
-use Rattle.loader.specs.Judge.{packed, judged_from}
+use Rattle.judge.specs.Judge.{judged_by}
+use Rattle.loader.specs.Judge.{judged_from}
 use Rattle.group.specs.Fresh.{fresh_answer, fresh_group}
 use Rattle.group.specs.Marks.{model_in, sheet_in}
 use Rattle.group.specs.Read.{ReadAnswer, Granted, Denied, Refused}
@@ -25,11 +23,13 @@ use Rattle.station.specs.declared.MaskAnswer.{MaskAnswer}
 use Rattle.delivery.specs.Delivery.{Delivery}
 use Rattle.delivery.specs.Delivery as delivery
 use Rattle.demands.specs.Gate.{Left, Gate}
+use Rattle.demands.specs.Judgement.{Judgement, Said, judgement_told, packed_judgement}
+use Rattle.demands.specs.Judgement as judgement
 use Rattle.demands.specs.Ours.{ours}
 
 -- our gate with some of its calls replaced
 abbrev pub replacing : (ℕ → Left Group) → (Group → ℕ → ℕ → Left Group) → (Group → Left Group) → (Group → ℕ → ℕ → ReadAnswer) → (List Group → ℕ → ℕ → MaskAnswer)
-    → (Group → ℕ → List ℕ → List ℕ → Delivery) → (Group → ℕ → List ℕ → List ℕ → List ℕ) → (List ℕ → List ℕ → ℕ → Result Verdict Refusal) → (List ℕ → List ℕ → ℕ → ℕ) → Gate Group
+    → (Group → ℕ → List ℕ → List ℕ → Delivery) → (Group → ℕ → List ℕ → List ℕ → List ℕ) → (List ℕ → List ℕ → ℕ → Judgement) → (List ℕ → List ℕ → ℕ → ℕ) → Gate Group
 replacing fresh request close read mask deliver delivered judge judge_bytes = record {
   number = ours.number;
   closed = ours.closed;
@@ -73,7 +73,7 @@ refuses_all = record {
   mask = λ gs m s. record { code = bad_list; mask = 0 };
   deliver = λ g m store out. delivery.Refused bad_store 0;
   delivered = λ g m store out. out;
-  judge = λ m s now. Err LateNow;
+  judge = λ m s now. judgement.Refused late_now 0;
   evidence = λ m s now. [];
   judge_bytes = λ m s now. 0;
   spans = λ m s now list. record { code = late_now; place = 0; count = 0 };
@@ -134,20 +134,20 @@ nameless = replacing (λ number. ours.fresh 0) ours.request ours.close ours.read
 -- ---- the judge
 
 -- our gate with another judge, and with another judge from C
-abbrev pub judging : (List ℕ → List ℕ → ℕ → Result Verdict Refusal) → (List ℕ → List ℕ → ℕ → ℕ) → Gate Group
+abbrev pub judging : (List ℕ → List ℕ → ℕ → Judgement) → (List ℕ → List ℕ → ℕ → ℕ) → Gate Group
 judging = replacing ours.fresh ours.request ours.close ours.read ours.mask ours.deliver ours.delivered
 
 -- always denies
 abbrev pub denies_all : Gate Group
-denies_all = judging (λ m s now. Ok (verdict.Denied None)) ours.judge_bytes
+denies_all = judging (λ m s now. Said (verdict.Denied None)) ours.judge_bytes
 
 -- a strict cause told with another tick
-abbrev pub dated : ℕ → Result Verdict Refusal → Result Verdict Refusal
-dated t (Ok (verdict.Granted moment)) = Ok (verdict.Granted moment)
-dated t (Ok (verdict.Denied None)) = Ok (verdict.Denied None)
-dated t (Ok (verdict.Denied (StrictLeave e))) = Ok (verdict.Denied (StrictLeave t))
-dated t (Ok (verdict.Denied (StrictRemove e))) = Ok (verdict.Denied (StrictRemove t))
-dated t (Err refusal) = Err refusal
+abbrev pub dated : ℕ → Judgement → Judgement
+dated t (Said (verdict.Granted moment)) = Said (verdict.Granted moment)
+dated t (Said (verdict.Denied None)) = Said (verdict.Denied None)
+dated t (Said (verdict.Denied (StrictLeave e))) = Said (verdict.Denied (StrictLeave t))
+dated t (Said (verdict.Denied (StrictRemove e))) = Said (verdict.Denied (StrictRemove t))
+dated t (judgement.Refused number place) = judgement.Refused number place
 
 -- with tick 0
 abbrev pub undated : Gate Group
@@ -155,7 +155,7 @@ undated = judging (λ m s now. dated 0 (ours.judge m s now)) ours.judge_bytes
 
 -- with tick 0 only from C
 abbrev pub undated_in_c : Gate Group
-undated_in_c = judging ours.judge (λ m s now. packed (dated 0 (judged_from m s now)))
+undated_in_c = judging ours.judge (λ m s now. packed_judgement (dated 0 (judgement_told (judged_from m s now))))
 
 -- with the latest moment's tick
 abbrev pub moment_dated : Gate Group
@@ -163,7 +163,7 @@ moment_dated = judging (λ m s now. dated (latest (history_of m) (history_of s) 
 
 -- with the last tick in which the grant held
 abbrev pub held_dated : Gate Group
-held_dated = judging (λ m s now. dated (verdict_value (ours.judge m s now) - 1) (ours.judge m s now)) ours.judge_bytes
+held_dated = judging (λ m s now. dated (verdict_value (judged_by m s now) - 1) (ours.judge m s now)) ours.judge_bytes
 
 -- with the tick of the earliest strict event of the whole history
 abbrev pub early_dated : Gate Group
@@ -179,12 +179,12 @@ abbrev pub late_dated : Gate Group
 late_dated = judging (λ m s now. dated (latest_strict (history_of m) (history_of s) now) (ours.judge m s now)) ours.judge_bytes
 
 -- names the remove where a strict leave and a strict remove fall in one tick
-abbrev pub renamed : History → Result Verdict Refusal → Result Verdict Refusal
-renamed sheet (Ok (verdict.Granted moment)) = Ok (verdict.Granted moment)
-renamed sheet (Ok (verdict.Denied None)) = Ok (verdict.Denied None)
-renamed sheet (Ok (verdict.Denied (StrictLeave e))) = Ok (cond (eqb (sheet e) SR) (verdict.Denied (StrictRemove e)) (verdict.Denied (StrictLeave e)))
-renamed sheet (Ok (verdict.Denied (StrictRemove e))) = Ok (verdict.Denied (StrictRemove e))
-renamed sheet (Err refusal) = Err refusal
+abbrev pub renamed : History → Judgement → Judgement
+renamed sheet (Said (verdict.Granted moment)) = Said (verdict.Granted moment)
+renamed sheet (Said (verdict.Denied None)) = Said (verdict.Denied None)
+renamed sheet (Said (verdict.Denied (StrictLeave e))) = Said (cond (eqb (sheet e) SR) (verdict.Denied (StrictRemove e)) (verdict.Denied (StrictLeave e)))
+renamed sheet (Said (verdict.Denied (StrictRemove e))) = Said (verdict.Denied (StrictRemove e))
+renamed sheet (judgement.Refused number place) = judgement.Refused number place
 
 abbrev pub misnaming : Gate Group
 misnaming = judging (λ m s now. renamed (history_of s) (ours.judge m s now)) ours.judge_bytes
