@@ -76,6 +76,13 @@ impl From<Refusal> for Failed<'_> {
     }
 }
 
+// An answer in numbers that refuses.
+impl From<Refused> for Failed<'_> {
+    fn from(refused: Refused) -> Self {
+        Failed::Refused(refused)
+    }
+}
+
 // The line that a command is answered.
 pub fn put<P: Print>(page: &mut Page<P>, answer: Result<Answer, Failed<'_>>) {
     match answer {

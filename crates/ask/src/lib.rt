@@ -85,6 +85,7 @@ fn room(word: &[u8]) -> Result<usize, Reason> {
 }
 
 // The words at the front of a line, and how many they are.
+// kept: an array with a count, since the keeper takes no heap.
 fn words(line: &[u8]) -> ([&[u8]; WORDS], usize)
     ensures { result.1 ≤ 5 }
 {

@@ -5,6 +5,7 @@ use super::reason::Reason;
 const NAME: usize = 200;
 
 // A word as a number: decimal digits, leading zeros allowed.
+// kept: by hand: with `parse`, which takes a plus and tells no reason, a million commands take 94 ms for 82.
 pub fn decimal(word: &[u8]) -> Result<u32, Reason> {
     let mut value: u64 = 0;
     for byte in word {

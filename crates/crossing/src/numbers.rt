@@ -15,6 +15,7 @@ pub struct Read {
     pub granted: u32,
 }
 
+// kept: functions by these names, here and below, and no `From`: docs/PROMISES.md promises them.
 pub fn of_read(answer: Result<bool, Refusal>) -> Read
     ensures { result ≡ read_numbers (read_told answer) }
 {

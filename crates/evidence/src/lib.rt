@@ -11,12 +11,8 @@ use formula::{Moment, Verdict};
 fn place_of(s: &[u32], tick: u32) -> usize
     ensures { (result ≡ place_of s.now tick) × (result ≤ length s.now) }
 {
-    for (i, word) in s.iter().enumerate() {
-        if event::tick(*word) == tick {
-            return i;
-        }
-    }
-    s.len()
+    let here = s.iter().position(|word| event::tick(*word) == tick);
+    here.unwrap_or(s.len())
 }
 
 // Denied or refused: the empty part at the start of the model's strip.

@@ -46,8 +46,7 @@ pub fn value(answer: Result<Verdict, Refusal>) -> u32
     match answer {
         Ok(Verdict::Granted(Moment::Add(tick) | Moment::Join(tick))) => tick,
         Ok(Verdict::Denied(Cause::None)) => 0,
-        Ok(Verdict::Denied(Cause::StrictLeave(tick))) => tick,
-        Ok(Verdict::Denied(Cause::StrictRemove(tick))) => tick,
+        Ok(Verdict::Denied(Cause::StrictLeave(tick) | Cause::StrictRemove(tick))) => tick,
         Err(refusal) => refusal.place(),
     }
 }

@@ -73,14 +73,14 @@ fn gain(
     requires { length words.old ≡ sheets }
     ensures { words.new ≡ gained_words words.old sr adds liberal members lj }
 {
-    // kept: k is the number of a word of sheets, which gain_word takes, and counts through no list of its own.
+    // kept: `gain_word` finds the sheets of word k by k too, and a zip of three arrays beside it is no plainer.
     for k in 0..4 {
         gain_word(words, k, sr[k], adds[k], liberal[k], members, lj);
     }
 }
 
 // Every sheet's word after the tick, where it stands.
-// kept: the tick's sets one by one and no struct of them, since `closed_words` takes them so, and the two callers have them in different places.
+// kept: the tick's sets one by one and no struct of them, since `closed_words` takes them so, and they come from a group's own fields and from what a close settles.
 #[tactic(auto, using(crate::proofs::Apart::closed_apart))]
 pub fn close_words(
     words: &mut [u64; 256],

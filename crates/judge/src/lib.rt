@@ -9,6 +9,7 @@ ghost use Rattle.judge.specs.Judge.{Judges};
 use formula::Verdict;
 use rules::refusal::Refusal;
 
+// kept: two strips and now side by side, here and wherever they go together, as RULES.md 6 and 7 and the calls of C have them.
 pub fn judge(m: &[u32], s: &[u32], now: u32) -> Result<Verdict, Refusal>
     ensures { Judges m.now s.now now result }
 {

@@ -1,5 +1,7 @@
 // A page of output: lines gather in memory of a fixed size, which is written out when it is nearly full, before a program waits, and at the end.
 // kept: a buffer of its own, since no heap is a rule of the project, as the library's `BufWriter` takes.
+ghost use Rattle.std.specs.Prelude.{◌≤◌, length};
+
 use std::fmt;
 use std::fmt::{Display, Write};
 
@@ -16,6 +18,7 @@ pub struct Page<'a, P> {
     at: usize,
     // the lines that are counted
     lines: u32,
+    ghost within: { at ≤ length buffer },
 }
 
 impl<P> Write for Page<'_, P> {
@@ -28,7 +31,8 @@ impl<P> Write for Page<'_, P> {
 impl<P> Page<'_, P> {
     // Adds bytes that need not be text; what doesn't fit is left out whole.
     pub fn bytes(&mut self, bytes: &[u8]) {
-        self.at = text::add(&mut self.buffer, self.at, bytes);
+        let at = text::add(&mut self.buffer, self.at, bytes);
+        self.at = at;
     }
 }
 
@@ -44,7 +48,7 @@ impl<'a, P: Print> Page<'a, P> {
 
     // Writes out what is in the buffer. A write that fails is passed over.
     pub fn flush(&mut self) {
-        let _ = self.to.write_all(self.buffer.get(..self.at).unwrap_or(&[]));
+        let _ = self.to.write_all(&self.buffer[..self.at]);
         self.at = 0;
     }
 

@@ -3,10 +3,19 @@ use rules::refusal::Refusal;
 use std::fmt;
 
 // A refusal in numbers, as C gets it: its own, and the place that stands beside it.
+// kept: in numbers, since a book that is read, a close and a fresh group are answered so (the C interface).
 #[derive(Clone, Copy)]
 pub struct Refused {
-    pub number: u32,
-    pub place: u32,
+    number: u32,
+    place: u32,
+}
+
+// Of an answer in numbers: accepted where the number is 0.
+pub fn accepted(number: u32, place: u32) -> Result<(), Refused> {
+    if number == 0 {
+        return Ok(());
+    }
+    Err(Refused { number, place })
 }
 
 impl Refused {

@@ -18,8 +18,8 @@ fn granted<P: Print>(page: &mut Page<P>, model: u32, sheet: u32, moment: Moment)
 
 // The listing of a book that was read, by model, then sheet; a pair that isn't granted has no line.
 fn listed<P: Print>(page: &mut Page<P>, book: Book) {
-    let models = Strips::gathered(book.words, Side::Model);
-    let sheets = Strips::gathered(book.words, Side::Sheet);
+    let models = Strips::gathered(book.words, Side::Model, rules::MODELS);
+    let sheets = Strips::gathered(book.words, Side::Sheet, rules::SHEETS);
     page.line(book);
     for model in 0..rules::MODELS {
         for sheet in 0..rules::SHEETS {

@@ -4,7 +4,7 @@
 pub mod strips;
 
 use lines::read_full;
-use lines::refused::Refused;
+use lines::refused::{Refused, accepted};
 use std::fmt;
 use std::io::Read;
 
@@ -40,12 +40,7 @@ pub fn read_book<'a, R: Read>(
     let mut input = [0u8; INPUT];
     let bytes = read_full(reader, &mut input);
     let read = book::read(bytes, list);
-    if read.code != 0 {
-        return Err(Refused {
-            number: read.code,
-            place: read.place,
-        });
-    }
+    accepted(read.code, read.place)?;
     let records = kept::records(bytes.len());
     Ok(Book {
         number: read.group.number,

@@ -4,14 +4,8 @@ use strip::Side;
 // One place more than there are sheets, of which there are the most: where each strip ends and the next begins.
 const ENDS: usize = rules::SHEETS as usize + 1;
 
-fn carriers(side: Side) -> u32 {
-    match side {
-        Side::Model => rules::MODELS,
-        Side::Sheet => rules::SHEETS,
-    }
-}
-
 // Strips that are gathered once: one behind the other, with their ends.
+// kept: a list with ends beside it: slices of a list can't stand beside it in one struct, and there is no heap.
 #[derive(Drop)]
 pub struct Strips {
     list: [u32; rules::EVENTS],
@@ -19,13 +13,14 @@ pub struct Strips {
 }
 
 impl Strips {
-    pub fn gathered(words: &[u32], side: Side) -> Strips {
+    // The strips of a side's carriers, of which there are so many.
+    pub fn gathered(words: &[u32], side: Side, carriers: u32) -> Strips {
         let mut strips = Strips {
             list: [0; rules::EVENTS],
             ends: [0; ENDS],
         };
         let mut at = 0;
-        for (number, end) in (0..carriers(side)).zip(&mut strips.ends[1..]) {
+        for (number, end) in (0..carriers).zip(&mut strips.ends[1..]) {
             at = gather::gather(words, side, number, &mut strips.list, at);
             *end = at;
         }

@@ -11,6 +11,7 @@ use rules::kind::Kind;
 use rules::refusal::Refusal;
 
 // The mark of an accepted request, set where the group stands.
+// kept: the kind as a number, which a record's word gives; `marked_group` leaves the group as it is for one that is none.
 #[tactic(auto, unfolding(group::specs::Request::marked_group))]
 pub fn mark(g: &mut Group, kind: u32, number: u32)
     requires { number < carriers kind }
@@ -50,7 +51,7 @@ pub fn request(mut group: Group, kind: u32, number: u32) -> Answer
     Answer { code, group }
 }
 
-// A request on a group lent and marked where it stands; a refusal leaves it as it was.
+// A request on a group lent, as C has it; a refusal leaves it as it was.
 // kept: by value and stored back is the form that RULES.md 17 fixes, and the number is what C gets
 pub fn request_at(g: &mut Group, kind: u32, number: u32) -> u32
     ensures { (result ≡ (request_answer g.old kind number).code) × (g.new ≡ (request_answer g.old kind number).group) }

@@ -1,4 +1,4 @@
-// The ranges, the kinds and the refusals of the gate, each with its one name. specs/ gives the definitions the same names.
+// The ranges of the gate and the numbers of its kinds, each with its one name, which specs/ gives the definitions too; its kinds and refusals are enums.
 #![tactic(auto)]
 
 pub mod kind;
@@ -23,6 +23,7 @@ pub const LONGEST_BOOK: usize = 16404;
 pub const STORE_BYTES: usize = 1048576;
 
 // Kinds: strict and liberal join, leave, add, remove.
+// kept: numbers beside the enum `Kind`, since public calls are promised on any number (`event::kind`, `stepping::step` and others of docs/PROMISES.md), and QUIET is no kind.
 pub const SJ: u32 = 0;
 
 pub const LJ: u32 = 1;

@@ -78,13 +78,12 @@ impl Refusal {
         ensures { result ≡ refusal_place self }
     {
         match self {
-            Refusal::BadModel(place) => place,
-            Refusal::BadSheet(place) => place,
-            Refusal::BadRecord(place) => place,
-            Refusal::NotRising(place) => place,
-            Refusal::IllFormed(place) => place,
-            Refusal::NotInStore(sheet) => sheet,
-            Refusal::BadEntry(sheet) => sheet,
+            Refusal::BadModel(place)
+            | Refusal::BadSheet(place)
+            | Refusal::BadRecord(place)
+            | Refusal::NotRising(place)
+            | Refusal::IllFormed(place) => place,
+            Refusal::NotInStore(sheet) | Refusal::BadEntry(sheet) => sheet,
             _ => 0,
         }
     }

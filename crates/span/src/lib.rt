@@ -44,7 +44,7 @@ fn pairs(m: &[u32], s: &[u32], now: u32, list: &mut [u32]) -> usize
 {
     let mut pass = pass::begin(m, s);
     let mut spanning = Spanning { first: 0, count: 0 };
-    // kept: no plainer: a turn moves either of two places or both, and the pass holds them.
+    // kept: by the places that the pass holds, since `pass::advance` promises `advanced`, which moves them.
     while pass.i + pass.j < m.len() + s.len() {
         pass = pass::advance(m, s, pass);
         let seen = pass.seen;

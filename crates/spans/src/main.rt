@@ -23,8 +23,8 @@ fn lines<P: Print>(page: &mut Page<P>, model: u32, sheet: u32, list: &[u32], cou
 
 // The spans of a book that was read, by model, then sheet.
 fn listed<P: Print>(page: &mut Page<P>, asked: Asked, book: Book) {
-    let models = Strips::gathered(book.words, Side::Model);
-    let sheets = Strips::gathered(book.words, Side::Sheet);
+    let models = Strips::gathered(book.words, Side::Model, rules::MODELS);
+    let sheets = Strips::gathered(book.words, Side::Sheet, rules::SHEETS);
     let mut list = [0; LIST];
     page.line(book);
     for model in asked.models {

@@ -31,6 +31,7 @@ fn sheet_count(store: &[u8]) -> u32
     wire::read32(store, 4)
 }
 
+// kept: a store's bytes and a sheet, here and below: docs/PROMISES.md names these functions with what they ask, and a type of good stores would ask more.
 pub fn offset_of(store: &[u8], sheet: u32) -> u64
     requires { 16 + 8 * sheet ≤ length store.now }
     ensures { (result ≡ offset store.now sheet) × (result < 4294967296) }
