@@ -25,6 +25,7 @@ pub fn add(out: &mut [u8], at: usize, text: &[u8]) -> usize
 }
 
 // Adds a number in decimal digits, as few as it takes.
+// kept: what the programs print goes by `write!` now, and docs/PROMISES.md promises this call.
 pub fn add_decimal(out: &mut [u8], at: usize, n: u64) -> usize
     ensures { AddsDecimal out.old at n out.new result }
 {
