@@ -1,5 +1,5 @@
 // Standard input, a line at a time, in memory of a fixed size.
-// kept: a buffer of its own, since the keeper takes no heap, as the library's `BufReader` does.
+// kept: a buffer of its own: the library's `BufReader` takes the heap, which the keeper doesn't.
 ghost use Rattle.std.specs.Prelude.{◌+◌, ◌≤◌, length, IfSome};
 
 use std::io::Read;

@@ -8,6 +8,7 @@ ghost use Rattle.group.specs.Read.{read_told};
 use rules::refusal::Refusal;
 
 // A refusal's number, or 0 with 1 for granted and 0 for denied.
+// kept: numbers are the C interface.
 #[repr(C)]
 #[derive(Clone, Copy)]
 pub struct Read {

@@ -27,6 +27,7 @@ pub enum Verdict {
     Denied(Cause),
 }
 
+// kept: functions by these names, here and below: docs/PROMISES.md promises them.
 pub fn number(answer: Result<Verdict, Refusal>) -> u32
     ensures { result ≡ verdict_number answer }
 {

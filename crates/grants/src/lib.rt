@@ -49,7 +49,7 @@ fn gain_word(
     ensures { words.new ≡ gained_in k words.old removed added inside members lj }
 {
     let change = changed(removed, added, inside, lj);
-    // kept: no count by hand, since the place goes on to the next sheet that changes; an iterator of our own would be longer than the loop.
+    // kept: a loop by hand, since the place goes on to the next sheet that changes; an iterator of our own would be longer than the loop.
     let mut place = bits::next_bit(change, 0);
     while place < bits::WIDTH {
         let s = k * 64 + place as usize;

@@ -41,6 +41,7 @@ pub struct Answer {
 }
 
 // A count in numbers: a refusal's number, or 0 with the count.
+// kept: numbers, here and above, are the C interface.
 #[repr(C)]
 #[derive(Clone, Copy)]
 pub struct CountAnswer {

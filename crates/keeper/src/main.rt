@@ -14,6 +14,7 @@ use std::rt::Files;
 
 // Answers every line up to the end of the input.
 // A proved loop has to end, and nothing says that an input does: the loop has a number of turns that no run uses up.
+// kept: a bound on the turns, which no run uses up, since a proved loop has to end.
 fn converse<H: Files + Print, R: Read>(rt: &H, reader: &mut R, page: &mut Page<H>) {
     let mut input = Input::new();
     let mut keeper = Keeper::new();

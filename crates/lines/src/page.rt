@@ -1,5 +1,5 @@
 // A page of output: lines gather in memory of a fixed size, which is written out when it is nearly full, before a program waits, and at the end.
-// kept: a buffer of its own, since no heap is a rule of the project, as the library's `BufWriter` takes.
+// kept: a buffer of its own: the library's `BufWriter` takes the heap, which the programs don't.
 ghost use Rattle.std.specs.Prelude.{◌≤◌, length};
 
 use std::fmt;

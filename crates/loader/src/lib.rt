@@ -22,6 +22,7 @@ fn whole(length: usize) -> bool
 }
 
 // The answer's number and value in one number.
+// kept: a function by this name: docs/PROMISES.md promises it.
 pub fn pack(answer: Result<Verdict, Refusal>) -> u64
     ensures { result ≡ packed answer }
 {

@@ -14,6 +14,7 @@ use rules::TICKS;
 use rules::kind::Kind;
 use rules::refusal::Refusal;
 
+// kept: two functions, of a word and of four words: a trait over both is longer than the two.
 fn model_marked(group: &Group, model: u32) -> bool
     requires { model < models }
     ensures { result ≡ model_marked group.now model }

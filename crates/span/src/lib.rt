@@ -10,6 +10,7 @@ use rules::refusal::Refusal;
 use spanning::Spanning;
 
 // For C, in numbers: a refusal's number with its place, 0 where it has none, and count 0; or 0 and 0 with how many spans there are.
+// kept: numbers are the C interface.
 #[repr(C)]
 #[derive(Clone, Copy)]
 pub struct SpansAnswer {

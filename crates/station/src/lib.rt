@@ -9,6 +9,7 @@ use rules::GROUPS;
 use rules::refusal::Refusal;
 
 // A mask in numbers: a refusal's number, or 0 with the mask.
+// kept: numbers are the C interface.
 #[repr(C)]
 #[derive(Clone, Copy)]
 pub struct MaskAnswer {

@@ -112,6 +112,7 @@ pub fn holds(standing: Standing) -> bool
     matches!(standing, Standing::ByAdd(_) | Standing::ByJoin(_))
 }
 
+// kept: a function by this name: docs/PROMISES.md promises it.
 pub fn told(standing: Standing) -> Verdict
     ensures { result ≡ told_by standing }
 {

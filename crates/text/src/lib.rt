@@ -54,6 +54,7 @@ fn digit_count(n: u64) -> usize
 }
 
 // Puts the last k digits of a number at the front of `out`.
+// kept: the digits by hand, from the back: `last_digits` has them so.
 fn write_digits(n: u64, k: usize, out: &mut [u8])
     requires { k ≤ length out.old }
     ensures { take k out.new ≡ last_digits k n }

@@ -30,6 +30,7 @@ pub fn decode(b: &[u8], out: &mut [u32]) -> usize
     ensures { (result ≡ length b.now / 4) × (out.new ≡ words b.now result ++ drop result out.old) }
 {
     let (words, _) = b.as_chunks::<4>();
+    // kept: the place counted: after a zip with `iter_mut` a proof knows nothing of what was written.
     for (i, word) in words.iter().enumerate() {
         out[i] = u32::from_le_bytes(*word);
     }
