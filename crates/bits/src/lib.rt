@@ -23,6 +23,15 @@ pub fn with_bit(word: u64, place: u32) -> u64
     word | 1 << place
 }
 
+// The word with the bit, where it is to have it.
+// kept: called by nobody now, since `request::mark` has a case for each kind; docs/PROMISES.md promises it.
+pub fn mark_word(word: u64, when: bool, place: u32) -> u64
+    requires { when ≡ true → place < width }
+    ensures { result ≡ cond when (with_bit word place) word }
+{
+    if when { with_bit(word, place) } else { word }
+}
+
 pub fn after_word(was: u64, gone: u64, come: u64) -> u64
     ensures { result ≡ after_word was gone come }
 {

@@ -27,6 +27,15 @@ pub fn with(mut words: [u64; 4], number: u32) -> [u64; 4]
     words
 }
 
+// The set with the number, where it is to have it.
+// kept: called by nobody now, as `bits::mark_word`; docs/PROMISES.md promises it.
+pub fn mark_set(words: [u64; 4], when: bool, number: u32) -> [u64; 4]
+    requires { when ≡ true → number < 256 }
+    ensures { result ≡ cond when (with words number) words }
+{
+    if when { with(words, number) } else { words }
+}
+
 #[tactic(auto, unfolding(crate::specs::Set::either, base::specs::Table::table))]
 pub fn either(a: [u64; 4], b: [u64; 4]) -> [u64; 4]
     ensures { result ≡ either 4 a b }
