@@ -38,9 +38,13 @@ pub fn decode(b: &[u8], out: &mut [u32]) -> usize
 }
 
 // Copies bytes.
+// kept: a loop, which the compiler makes a block copy of 32 bytes a turn: the library's copy is a call of `memmove`, a name that the archive for C would need
+// from outside, and by its copy of 128 bytes at a time, which is none, a delivery of 16 sheets of 4,000 bytes takes a quarter longer.
 pub fn copy(from: &[u8], to: &mut [u8])
     requires { length to.old ≡ length from.now }
     ensures { to.new ≡ from.now }
 {
-    to.copy_from_slice(from);
+    for i in 0..from.len() {
+        to[i] = from[i];
+    }
 }
