@@ -31,17 +31,24 @@ pub fn check(grants: &[u64; 256], model: u32, store: &[u8]) -> Result<Sums, Faul
     ensures refused { refusal_seen result ≡ found grants.now model store.now }
 {
     let mut count: u32 = 0;
-    let mut total: u32 = 8;
+    // in 64 bits, where two words cannot wrap
+    let mut total: u64 = 8;
     for sheet in 0..rules::SHEETS {
         if !parts::is_granted(grants, model, sheet) {
             continue;
         }
         if let Err(refusal) = store::entry_fault(store, sheet) {
-            let before = Sums { count, total };
+            let before = Sums {
+                count,
+                total: total as u32,
+            };
             return Err(Fault { refusal, before });
         }
         count += 1;
-        total += 8 + store::length_of(store, sheet) as u32;
+        total += 8 + store::length_of(store, sheet);
     }
-    Ok(Sums { count, total })
+    Ok(Sums {
+        count,
+        total: total as u32,
+    })
 }

@@ -1,0 +1,2 @@
+-- Laws of the look.
+pub mod Once
