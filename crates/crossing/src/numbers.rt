@@ -1,11 +1,7 @@
 // The answers of a read and of a delivery in numbers.
 ghost use Rattle.std.specs.Prelude.{◌≡◌};
-ghost use Rattle.crossing.specs.Delivered.{delivery_numbers};
-ghost use Rattle.delivery.specs.Delivery.{delivery_told};
-ghost use Rattle.crossing.specs.Read.{read_numbers};
-ghost use Rattle.group.specs.Read.{read_told};
-
-use rules::refusal::Refusal;
+ghost use Rattle.crossing.specs.Delivered.{delivery_numbers, delivery_of};
+ghost use Rattle.crossing.specs.Read.{read_numbers, read_of};
 
 // A refusal's number, or 0 with 1 for granted and 0 for denied.
 // kept: numbers are the C interface.
@@ -16,19 +12,17 @@ pub struct Read {
     pub granted: u32,
 }
 
-// kept: functions by these names, here and below, and no `From`: docs/PROMISES.md promises them.
-pub fn of_read(answer: Result<bool, Refusal>) -> Read
-    ensures { result ≡ read_numbers (read_told answer) }
+// Here and below the refusal is any number, with its place where it has one.
+// kept: functions by these names, here and below, and no `From`: docs/PROMISES.md promises them, on any number that a refusal has.
+pub fn of_read(answer: Result<bool, u32>) -> Read
+    ensures { result ≡ read_numbers (read_of answer) }
 {
     match answer {
         Ok(granted) => Read {
             code: 0,
             granted: u32::from(granted),
         },
-        Err(refusal) => Read {
-            code: refusal.number(),
-            granted: 0,
-        },
+        Err(code) => Read { code, granted: 0 },
     }
 }
 
@@ -41,8 +35,8 @@ pub struct Delivered {
     pub length: u32,
 }
 
-pub fn of_delivery(delivery: Result<u32, Refusal>) -> Delivered
-    ensures { result ≡ delivery_numbers (delivery_told delivery) }
+pub fn of_delivery(delivery: Result<u32, (u32, u32)>) -> Delivered
+    ensures { result ≡ delivery_numbers (delivery_of delivery) }
 {
     match delivery {
         Ok(length) => Delivered {
@@ -50,9 +44,9 @@ pub fn of_delivery(delivery: Result<u32, Refusal>) -> Delivered
             place: 0,
             length,
         },
-        Err(refused) => Delivered {
-            code: refused.number(),
-            place: refused.place(),
+        Err((code, place)) => Delivered {
+            code,
+            place,
             length: 0,
         },
     }

@@ -24,12 +24,12 @@ use Rattle.delivery.specs.Delivery.{delivery_told}
 use Rattle.delivery.proofs.Once.{once}
 use Rattle.event.specs.Word.{tick_of, kind_of, number_of}
 use Rattle.format.specs.Header.{header_refusal, room_refusal}
-use Rattle.formula.specs.Answer.{verdict_number, verdict_value}
+use Rattle.formula.specs.Numbers.{answer_number, answer_value}
 use Rattle.formula.specs.declared.Verdict.{Verdict}
-use Rattle.crossing.specs.Delivered.{delivery_numbers}
-use Rattle.loader.specs.Judge.{packed, judged_from}
+use Rattle.crossing.specs.Delivered.{delivery_numbers, delivery_of}
+use Rattle.loader.specs.Judge.{packed, packed_answer, judged_from}
 use Rattle.crossing.specs.Part.{evidence_part, records_part}
-use Rattle.crossing.specs.Read.{read_numbers}
+use Rattle.crossing.specs.Read.{read_numbers, read_of}
 use Rattle.crossing.specs.declared.numbers.Delivered.{Delivered}
 use Rattle.crossing.specs.declared.numbers.Read.{Read}
 use Rattle.crossing.specs.declared.part.Part.{Part}
@@ -116,7 +116,7 @@ pub record PromisesDetermine : Type 0 where
   -- loader::judged
   pub judged : (m s : List ℕ) (now : ℕ) → Once (Result Verdict Refusal) (λ r. r ≡ judged_from m s now)
   -- loader::pack
-  pub pack : (a : Result Verdict Refusal) → Once ℕ (λ r. r ≡ packed a)
+  pub pack : (a : Result Verdict (ℕ × ℕ)) → Once ℕ (λ r. r ≡ packed_answer a)
   -- evidence::evidence
   pub evidence : (m s : Bor (List ℕ)) (now : ℕ)
       → Once (List ℕ × (ℕ × ℕ)) (λ r. (r.0 ≡ evidence_of (judged_by m.now s.now now) m.now s.now) × (r.1 ≡ start_of (judged_by m.now s.now now) m s))
@@ -162,9 +162,9 @@ pub record PromisesDetermine : Type 0 where
       → Once (ℕ × List ℕ) (λ r. (r.0 ≡ gathered_end words side n out at) × (r.1 ≡ gathered words side n out at))
   -- from C, in numbers: a read, a delivery with its buffer, the records of one tick, the evidence
   -- crossing::numbers::of_read
-  pub of_read : (a : Result Bool Refusal) → Once Read (λ r. r ≡ read_numbers (read_told a))
+  pub of_read : (a : Result Bool ℕ) → Once Read (λ r. r ≡ read_numbers (read_of a))
   -- crossing::numbers::of_delivery
-  pub of_delivery : (d : Result ℕ Refusal) → Once Delivered (λ r. r ≡ delivery_numbers (delivery_told d))
+  pub of_delivery : (d : Result ℕ (ℕ × ℕ)) → Once Delivered (λ r. r ≡ delivery_numbers (delivery_of d))
   -- ferrulebee_read
   pub read_numbers_lem : (g : Group) (m s : ℕ) → Once Read (λ r. r ≡ read_numbers (read_answer g m s))
   -- ferrulebee_deliver
@@ -235,9 +235,9 @@ pub record PromisesDetermine : Type 0 where
       → Once (List ℕ × (ℕ × ℕ)) (λ r. (r.0 ≡ closed_events events.now kept) × (r.1 ≡ word_at events 0))
   -- the numbers of a verdict
   -- formula::number
-  pub number : (a : Result Verdict Refusal) → Once ℕ (λ r. r ≡ verdict_number a)
+  pub number : (a : Result Verdict (ℕ × ℕ)) → Once ℕ (λ r. r ≡ answer_number a)
   -- formula::value
-  pub value : (a : Result Verdict Refusal) → Once ℕ (λ r. r ≡ verdict_value a)
+  pub value : (a : Result Verdict (ℕ × ℕ)) → Once ℕ (λ r. r ≡ answer_value a)
   -- text and decimal digits added to a buffer
   -- text::add
   pub text : (out : List ℕ) (at : ℕ) (bytes : List ℕ) → Once (ℕ × List ℕ) (λ r. (r.0 ≡ added_end out at bytes) × (r.1 ≡ added out at bytes))
@@ -282,7 +282,7 @@ promises_determine = record {
   judge = λ m s now r t p q. p.answer ∙ sym q.answer;
   judge_of_bytes = λ m s now. one (packed (judged_from m s now));
   judged = λ m s now. one (judged_from m s now);
-  pack = λ answer. one (packed answer);
+  pack = λ answer. one (packed_answer answer);
   evidence = λ m s now. two (evidence_of (judged_by m.now s.now now) m.now s.now) (start_of (judged_by m.now s.now now) m s);
   check = λ m s now. one (checked m s now Err (Ok tt));
   spans = λ m s now list r t p q. let e = counted_once r.0 t.0 (p.0 ∙ sym q.0) in let f = p.1 ∙ sym q.1 in λ i. (e i, f i);
@@ -298,8 +298,8 @@ promises_determine = record {
   tick_part_lem = λ ws t. two (tick_part ws.now t) (word_at ws (tick_start ws.now t));
   first_bad_lem = λ side now s. one (first_bad side now s);
   gather = λ words side n out at. two (gathered_end words side n out at) (gathered words side n out at);
-  of_read = λ a. one (read_numbers (read_told a));
-  of_delivery = λ d. one (delivery_numbers (delivery_told d));
+  of_read = λ a. one (read_numbers (read_of a));
+  of_delivery = λ d. one (delivery_numbers (delivery_of d));
   read_numbers_lem = λ g m s. one (read_numbers (read_answer g m s));
   delivery_numbers_lem = λ g m store out. two (delivery_numbers (answer g.grants m store (length out))) (buffer_after g.grants m store out);
   records_numbers = λ ws t. one (records_part ws t);
@@ -331,8 +331,8 @@ promises_determine = record {
   after_request = λ events kept code w. two (requested_kept (length events) kept code) (requested_list events kept code w);
   after_close = λ kept code. one (closed_kept kept code);
   of_closed = λ events kept. two (closed_events events.now kept) (word_at events 0);
-  number = λ answer. one (verdict_number answer);
-  value = λ answer. one (verdict_value answer);
+  number = λ answer. one (answer_number answer);
+  value = λ answer. one (answer_value answer);
   text = λ out at bytes. two (added_end out at bytes) (added out at bytes);
   decimal = λ out at n r t p q. let e = one_decimal out at n r.1 t.1 r.0 t.0 p q in λ i. (e.1 i, e.0 i);
   word_tick = λ w. one (tick_of w);

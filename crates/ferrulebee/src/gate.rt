@@ -10,6 +10,7 @@ ghost use Rattle.crossing.specs.Read.{read_numbers};
 
 use crossing::numbers::Read;
 use group::{Answer, CountAnswer, Group};
+use rules::refusal::Refusal;
 use station::MaskAnswer;
 
 pub fn ferrulebee_fresh(number: u32) -> Answer
@@ -33,7 +34,7 @@ pub fn ferrulebee_close(group: Group) -> Answer
 pub fn ferrulebee_read(group: Group, model: u32, sheet: u32) -> Read
     ensures { result ≡ read_numbers (read_answer group model sheet) }
 {
-    crossing::numbers::of_read(group.read(model, sheet))
+    crossing::numbers::of_read(group.read(model, sheet).map_err(Refusal::number))
 }
 
 pub fn ferrulebee_models(group: Group, sheet: u32) -> CountAnswer

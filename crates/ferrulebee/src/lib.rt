@@ -8,10 +8,20 @@ pub mod gate;
 pub mod strips;
 
 ghost use Rattle.std.specs.Prelude.{◌≡◌};
+ghost use Rattle.rules.specs.Refusal.{refusal_number, refusal_place};
 ghost use Rattle.loader.specs.Judge.{packed, judged_from};
+
+use rules::refusal::Refusal;
 
 pub fn judge(m: &[u8], s: &[u8], now: u32) -> u64
     ensures { result ≡ packed (judged_from m.now s.now now) }
 {
-    loader::pack(loader::judged(m, s, now))
+    loader::pack(loader::judged(m, s, now).map_err(in_numbers))
+}
+
+// A refusal as C gets it: its number with its place.
+fn in_numbers(refusal: Refusal) -> (u32, u32)
+    ensures { result ≡ (refusal_number refusal, refusal_place refusal) }
+{
+    (refusal.number(), refusal.place())
 }

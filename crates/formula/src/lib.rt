@@ -2,9 +2,7 @@
 #![tactic(auto)]
 
 ghost use Rattle.std.specs.Prelude.{◌≡◌};
-ghost use Rattle.formula.specs.Answer.{verdict_number, verdict_value};
-
-use rules::refusal::Refusal;
+ghost use Rattle.formula.specs.Numbers.{answer_number, answer_value};
 
 // A tick where a bracket of the formula holds.
 #[derive(Clone, Copy, Debug, PartialEq, Eq)]
@@ -27,9 +25,10 @@ pub enum Verdict {
     Denied(Cause),
 }
 
-// kept: functions by these names, here and below: docs/PROMISES.md promises them.
-pub fn number(answer: Result<Verdict, Refusal>) -> u32
-    ensures { result ≡ verdict_number answer }
+// Here and below the refusal is any number, with its place.
+// kept: functions by these names, here and below: docs/PROMISES.md promises them, on any number that a refusal has.
+pub fn number(answer: Result<Verdict, (u32, u32)>) -> u32
+    ensures { result ≡ answer_number answer }
 {
     match answer {
         Ok(Verdict::Granted(Moment::Add(_))) => 101,
@@ -37,17 +36,17 @@ pub fn number(answer: Result<Verdict, Refusal>) -> u32
         Ok(Verdict::Denied(Cause::None)) => 103,
         Ok(Verdict::Denied(Cause::StrictLeave(_))) => 104,
         Ok(Verdict::Denied(Cause::StrictRemove(_))) => 105,
-        Err(refusal) => refusal.number(),
+        Err((number, _)) => number,
     }
 }
 
-pub fn value(answer: Result<Verdict, Refusal>) -> u32
-    ensures { result ≡ verdict_value answer }
+pub fn value(answer: Result<Verdict, (u32, u32)>) -> u32
+    ensures { result ≡ answer_value answer }
 {
     match answer {
         Ok(Verdict::Granted(Moment::Add(tick) | Moment::Join(tick))) => tick,
         Ok(Verdict::Denied(Cause::None)) => 0,
         Ok(Verdict::Denied(Cause::StrictLeave(tick) | Cause::StrictRemove(tick))) => tick,
-        Err(refusal) => refusal.place(),
+        Err((_, place)) => place,
     }
 }

@@ -6,10 +6,15 @@ use Rattle.rules.specs.declared.refusal.Refusal.TheVariants.{LateNow, LongModel,
 use Rattle.wire.specs.Words.{words_in}
 use Rattle.formula.specs.declared.Verdict.{Verdict}
 use Rattle.formula.specs.Answer.{verdict_number, verdict_value}
+use Rattle.formula.specs.Numbers.{answer_number, answer_value}
 use Rattle.judge.specs.Judge.{judged_by}
 
 abbrev pub packed : Result Verdict Refusal → ℕ
 packed answer = verdict_number answer * 2 ^ 32 + verdict_value answer
+
+-- the same where a refusal is told in numbers, whatever these are
+abbrev pub packed_answer : Result Verdict (ℕ × ℕ) → ℕ
+packed_answer answer = answer_number answer * 2 ^ 32 + answer_value answer
 
 -- "longer than 4,096 words, or from C not whole words" fails this, by the number of bytes
 abbrev pub whole_strip : ℕ → Bool

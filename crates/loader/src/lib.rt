@@ -5,7 +5,7 @@ ghost use Rattle.std.specs.Prelude.{◌≡◌, ◌/◌, ◌≤◌, length};
 ghost use Rattle.rules.specs.Ranges.{events};
 ghost use Rattle.wire.specs.Words.{words_in};
 ghost use Rattle.judge.specs.Judge.{judged_by};
-ghost use Rattle.loader.specs.Judge.{whole_strip, packed, judged_from};
+ghost use Rattle.loader.specs.Judge.{whole_strip, packed_answer, judged_from};
 
 use formula::Verdict;
 use rules::EVENTS;
@@ -21,10 +21,10 @@ fn whole(length: usize) -> bool
     (length % 4 == 0) & (length <= 4 * EVENTS)
 }
 
-// The answer's number and value in one number.
-// kept: a function by this name: docs/PROMISES.md promises it.
-pub fn pack(answer: Result<Verdict, Refusal>) -> u64
-    ensures { result ≡ packed answer }
+// The answer's number and value in one number; a refusal is any number, with its place.
+// kept: a function by this name: docs/PROMISES.md promises it, on any number that a refusal has.
+pub fn pack(answer: Result<Verdict, (u32, u32)>) -> u64
+    ensures { result ≡ packed_answer answer }
 {
     u64::from(formula::number(answer)) * 4294967296 + u64::from(formula::value(answer))
 }
