@@ -6,6 +6,10 @@ use lines::page::Page;
 use lines::refused::Refused;
 use rules::refusal::Refusal;
 use std::fmt;
+use text::Number;
+
+// No answer is longer.
+pub const ANSWER: usize = 2048;
 
 // What a command is answered where nothing fails.
 #[derive(Clone, Copy)]
@@ -41,22 +45,26 @@ pub enum Answer {
 
 impl fmt::Display for Answer {
     fn fmt<W: fmt::Write>(&self, f: &mut fmt::Formatter<W>) -> fmt::Result {
-        match self {
+        match *self {
             Answer::Help => f.write_str(HELP),
-            Answer::Ok => write!(f, "ok"),
-            Answer::Closed { ticks } => write!(f, "closed {ticks}"),
-            Answer::Fresh { group } => write!(f, "fresh {group}"),
-            Answer::Granted => write!(f, "granted"),
-            Answer::Denied => write!(f, "denied"),
-            Answer::Models { count } => write!(f, "models {count}"),
+            Answer::Ok => f.write_str("ok"),
+            Answer::Closed { ticks } => write!(f, "closed {}", Number(ticks.into())),
+            Answer::Fresh { group } => write!(f, "fresh {}", Number(group.into())),
+            Answer::Granted => f.write_str("granted"),
+            Answer::Denied => f.write_str("denied"),
+            Answer::Models { count } => write!(f, "models {}", Number(count.into())),
             Answer::Loaded {
                 group,
                 ticks,
                 records,
-            } => write!(f, "group {group} ticks {ticks} records {records}"),
-            Answer::Store { length } => write!(f, "store {length}"),
-            Answer::Saved { length } => write!(f, "saved {length}"),
-            Answer::Delivered { length } => write!(f, "delivered {length}"),
+            } => {
+                let (group, ticks) = (Number(group.into()), Number(ticks.into()));
+                let records = Number(records as u64);
+                write!(f, "group {group} ticks {ticks} records {records}")
+            }
+            Answer::Store { length } => write!(f, "store {}", Number(length as u64)),
+            Answer::Saved { length } => write!(f, "saved {}", Number(length as u64)),
+            Answer::Delivered { length } => write!(f, "delivered {}", Number(length.into())),
         }
     }
 }

@@ -8,7 +8,7 @@ use std::io::Read;
 const ROOM: usize = 65536;
 
 // The bytes at hand, from `at` to `end` of the buffer, and whether they are the last.
-#[derive(Drop)]
+#[derive(Clone, Copy)]
 pub struct Input {
     buffer: [u8; ROOM],
     at: usize,

@@ -39,7 +39,7 @@ fn converse<H: Files + Print, R: Read>(rt: &H, reader: &mut R, page: &mut Page<H
 }
 
 fn main(rt: HostRuntime) {
-    let mut page = Page::new(&rt);
+    let mut page = Page::new(&rt, answer::ANSWER);
     if has_arguments(&rt, 1) {
         answer::usage(&mut page);
     } else {

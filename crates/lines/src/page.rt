@@ -1,24 +1,38 @@
 // A page of output: lines gather in memory of a fixed size, which is written out when it is nearly full, before a program waits, and at the end.
 // kept: a buffer of its own: the library's `BufWriter` takes the heap, which the programs don't.
-ghost use Rattle.std.specs.Prelude.{◌≤◌, length};
+ghost use Rattle.std.specs.Prelude.{◌≡◌, ◌≤◌, length, ⊤};
 
+use std::alloc::AllocError;
 use std::fmt;
 use std::fmt::{Display, Write};
+use text::Number;
 
 const OUT: usize = 65536;
-
-// No line is longer.
-const LINE: usize = 2048;
 
 #[derive(Drop)]
 pub struct Page<'a, P> {
     to: &'a P,
     buffer: [u8; OUT],
+    // the bytes of the longest line, for which there is always room
+    longest: usize,
     // the bytes in the buffer
     at: usize,
     // the lines that are counted
     lines: u32,
     ghost within: { at ≤ length buffer },
+}
+
+// By hand, since no derive takes a ghost field: a page stands for what is still to be written, and may be copied as it could when it was two numbers.
+impl<P> Copy for Page<'_, P> {}
+
+impl<P> Clone for Page<'_, P> {
+    ghost is_clone = { λ x y. y ≡ x };
+
+    ghost is_infallible = { λ _. ⊤ };
+
+    fn clone(&self) -> Result<Self, AllocError> {
+        Ok(*self)
+    }
 }
 
 impl<P> Write for Page<'_, P> {
@@ -37,10 +51,12 @@ impl<P> Page<'_, P> {
 }
 
 impl<'a, P: Print> Page<'a, P> {
-    pub fn new(to: &'a P) -> Self {
+    // A page whose lines are no longer than so many bytes.
+    pub fn new(to: &'a P, longest: usize) -> Self {
         Page {
             to,
             buffer: [0; OUT],
+            longest,
             at: 0,
             lines: 0,
         }
@@ -55,7 +71,7 @@ impl<'a, P: Print> Page<'a, P> {
     // Adds a line that isn't counted.
     pub fn line<D: Display + Drop>(&mut self, line: D) {
         let _ = self.writeln(line);
-        if self.at > OUT - LINE {
+        if self.at > OUT.saturating_sub(self.longest) {
             self.flush();
         }
     }
@@ -68,7 +84,7 @@ impl<'a, P: Print> Page<'a, P> {
 
     // The last line counts those that are counted.
     pub fn total(&mut self, name: &str) {
-        let lines = self.lines;
+        let lines = Number(self.lines.into());
         self.line(format_args!("{name} {lines}"));
     }
 }

@@ -1,6 +1,7 @@
 // The line of a refusal.
 use rules::refusal::Refusal;
 use std::fmt;
+use text::Number;
 
 // A refusal in numbers, as C gets it: its own, and the place that stands beside it.
 // kept: in numbers, since a book that is read, a close and a fresh group are answered so (the C interface).
@@ -45,8 +46,9 @@ impl From<Refusal> for Refused {
 // "refused 21", or "refused 25 at 1" where there is a place.
 impl fmt::Display for Refused {
     fn fmt<W: fmt::Write>(&self, f: &mut fmt::Formatter<W>) -> fmt::Result {
-        let Refused { number, place } = *self;
+        let number = Number(self.number.into());
         if self.names_place() {
+            let place = Number(self.place.into());
             write!(f, "refused {number} at {place}")
         } else {
             write!(f, "refused {number}")

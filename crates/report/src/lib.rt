@@ -7,9 +7,13 @@ use lines::read_full;
 use lines::refused::{Refused, accepted};
 use std::fmt;
 use std::io::Read;
+use text::Number;
 
 // One byte more than the longest book, so that a longer input is refused as too long.
 const INPUT: usize = rules::LONGEST_BOOK + 1;
+
+// No line of a report is longer.
+pub const LINE: usize = 64;
 
 // A book that was read: its group, its ticks and its words.
 #[derive(Clone, Copy)]
@@ -22,12 +26,9 @@ pub struct Book<'a> {
 // A report's first line.
 impl fmt::Display for Book<'_> {
     fn fmt<W: fmt::Write>(&self, f: &mut fmt::Formatter<W>) -> fmt::Result {
-        let Book {
-            number,
-            ticks,
-            words,
-        } = *self;
-        let records = words.len();
+        let number = Number(self.number.into());
+        let ticks = Number(self.ticks.into());
+        let records = Number(self.words.len() as u64);
         write!(f, "group {number} ticks {ticks} records {records}")
     }
 }

@@ -1,4 +1,4 @@
-// The strips of a book's carriers, all models or all sheets.
+// The strips of a book's carriers: of one at a time, or of all sheets.
 use strip::Side;
 
 // One place more than there are sheets, of which there are the most: where each strip ends and the next begins.
@@ -10,6 +10,17 @@ const ENDS: usize = rules::SHEETS as usize + 1;
 pub struct Strips {
     list: [u32; rules::EVENTS],
     ends: [usize; ENDS],
+}
+
+// A carrier's strip, gathered to the front of the list.
+pub fn strip<'a>(
+    words: &[u32],
+    side: Side,
+    number: u32,
+    list: &'a mut [u32; rules::EVENTS],
+) -> &'a [u32] {
+    let end = gather::gather(words, side, number, list, 0);
+    list.get(..end).unwrap_or(&[])
 }
 
 impl Strips {

@@ -1,9 +1,11 @@
 // Text in a lent buffer: bytes and decimal numbers, one behind the other. What doesn't fit is left out whole.
 #![tactic(auto)]
 
-ghost use Rattle.std.specs.Prelude.{◌≡◌, ◌+◌, ◌<◌, ◌≤◌, length, take};
+ghost use Rattle.std.specs.Prelude.{◌≡◌, ◌+◌, ◌<◌, ◌≤◌, length, take, Some, decimal};
 ghost use Rattle.text.specs.Digits.{last_digits, IsDigitCount};
 ghost use Rattle.text.specs.Text.{added, added_end, AddsDecimal};
+
+use std::{fmt, str};
 
 // The digits of the largest number.
 const DIGITS: usize = 20;
@@ -24,8 +26,24 @@ pub fn add(out: &mut [u8], at: usize, text: &[u8]) -> usize
     end
 }
 
+// A number as the programs print it.
+#[derive(Clone, Copy)]
+pub struct Number(pub u64);
+
+impl fmt::Display for Number {
+    ghost output = { λ n. Some (decimal n.0) };
+
+    #[tactic(auto, using(crate::proofs::Printed::number_printed))]
+    fn fmt<W: fmt::Write>(&self, f: &mut fmt::Formatter<W>) -> fmt::Result {
+        let n = self.0;
+        let mut digits = [0u8; DIGITS];
+        let end = add_decimal(&mut digits, 0, n);
+        // that digits are text is proved; to look at them again took two fifths of a number's time
+        f.write_str(unsafe { str::from_utf8_unchecked(&digits[..end]) })
+    }
+}
+
 // Adds a number in decimal digits, as few as it takes.
-// kept: what the programs print goes by `write!` now, and docs/PROMISES.md promises this call.
 pub fn add_decimal(out: &mut [u8], at: usize, n: u64) -> usize
     ensures { AddsDecimal out.old at n out.new result }
 {

@@ -1,6 +1,6 @@
--- `read_full` ends, since each turn leaves less to fill.
+-- `fill` ends, since each turn leaves less to fill.
 use Rattle.std.proofs.Common.{length, ◌-◌, ◌≤◌}
-use Rattle.lines.proofs.read_full.Given as goal
+use Rattle.lines.proofs.fill.Given as goal
 
 abbrev pub invariant-loop-done : goal.invariant-loop-done
 invariant-loop-done g l = l.done ≤ length l.buffer
