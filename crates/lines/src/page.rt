@@ -22,7 +22,7 @@ pub struct Page<'a, P> {
     ghost within: { at ≤ length buffer },
 }
 
-// By hand, since no derive takes a ghost field: a page stands for what is still to be written, and may be copied as it could when it was two numbers.
+// By hand, since a generic struct with a ghost field gets no derived `Clone`: a page stands for what is still to be written, and may be copied as it could when it was two numbers.
 impl<P> Copy for Page<'_, P> {}
 
 impl<P> Clone for Page<'_, P> {
@@ -48,6 +48,12 @@ impl<P> Page<'_, P> {
         let at = text::add(&mut self.buffer, self.at, bytes);
         self.at = at;
     }
+
+    // Adds a number's digits where they stay, where a `Display` has them written elsewhere first; what doesn't fit is left out whole.
+    pub fn number(&mut self, n: u32) {
+        let at = text::add_decimal(&mut self.buffer, self.at, n.into());
+        self.at = at;
+    }
 }
 
 impl<'a, P: Print> Page<'a, P> {
@@ -70,16 +76,28 @@ impl<'a, P: Print> Page<'a, P> {
 
     // Adds a line that isn't counted.
     pub fn line<D: Display + Drop>(&mut self, line: D) {
-        let _ = self.writeln(line);
-        if self.at > OUT.saturating_sub(self.longest) {
-            self.flush();
-        }
+        let _ = self.write_fmt(line);
+        self.end();
     }
 
     // Adds a line that is counted.
     pub fn counted<D: Display + Drop>(&mut self, line: D) {
-        self.line(line);
+        let _ = self.write_fmt(line);
+        self.end_counted();
+    }
+
+    // Ends a line whose parts were added, and counts it.
+    pub fn end_counted(&mut self) {
+        self.end();
         self.lines = self.lines.wrapping_add(1);
+    }
+
+    // Ends a line.
+    fn end(&mut self) {
+        self.bytes(b"\n");
+        if self.at > OUT.saturating_sub(self.longest) {
+            self.flush();
+        }
     }
 
     // The last line counts those that are counted.

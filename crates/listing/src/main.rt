@@ -7,20 +7,25 @@ use report::strips::{Strips, strip};
 use report::{Book, read_book};
 use std::io::Read;
 use strip::Side;
-use text::Number;
 
-// The line of a granted pair. Kept apart from the pass over all pairs, most of which print none and which takes a tenth longer with it inside.
+// The line of a granted pair.
+// kept: part by part: as a `Display` it has the listing of a full book at 1.20 to 1.25 of plain Rust, above its aim (docs/BENCHMARKS.md). Kept apart from the pass over all pairs, most of which print none and which takes a tenth longer with it inside.
 #[inline(never)]
 fn granted<P: Print>(page: &mut Page<P>, model: u32, sheet: u32, moment: Moment) {
-    let (model, sheet) = (Number(model.into()), Number(sheet.into()));
+    page.number(model);
+    page.bytes(b" ");
+    page.number(sheet);
     match moment {
         Moment::Add(tick) => {
-            page.counted(format_args!("{model} {sheet} add {}", Number(tick.into())));
+            page.bytes(b" add ");
+            page.number(tick);
         }
         Moment::Join(tick) => {
-            page.counted(format_args!("{model} {sheet} join {}", Number(tick.into())));
+            page.bytes(b" join ");
+            page.number(tick);
         }
     }
+    page.end_counted();
 }
 
 // The listing of a book that was read, by model, then sheet; a pair that isn't granted has no line.

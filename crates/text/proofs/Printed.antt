@@ -1,20 +1,31 @@
--- The digits that `add_decimal` adds are those that `{}` writes. Assumes nothing.
-use mathlib.Core.Path.{◌≡◌, sym, ap, ◌∙◌}
+-- The digits that `add_digits` writes in place were added, and those that `add_decimal` adds are those that `{}` writes. Assumes nothing.
+use mathlib.Core.Path.{◌≡◌, refl, sym, ap, ◌∙◌}
 use mathlib.Core.Bool.{false}
 use mathlib.Core.List.{List, [], ◌∷◌, ◌++◌}
-use Prim.Native.Nat.{ℕ, zero, suc, ◌+◌, ◌/◌, ◌%◌, ◌^◌, ◌≤◌, ◌<◌}
-use native.Mathlib.Numerals.{sub-one}
+use Prim.Native.Nat.{ℕ, zero, suc, ◌+◌, ◌-◌, ◌/◌, ◌%◌, ◌^◌, ◌≤◌, ◌<◌}
+use native.Mathlib.Numerals.{add-one, sub-one}
 use native.Mathlib.Omega.{arith}
-use lib.ListN.{length, take, drop}
+use lib.ListN.{length, take, drop, length-append}
 use lib.Seq.{take_at}
+use borrow.Rule.Slice.PartMut.{put_mid}
 use borrow.Author.Tests.{le-ltb}
 use Rattle.std.specs.Fmt.{decimal}
 use Rattle.std.specs.Str.{IsUtf8}
 use Rattle.std.proofs.lemmas.Fmt.{decimal_digit, decimal_step, length-decimal-le, IsAscii-decimal}
+use Rattle.std.proofs.lemmas.List.{take_all}
 use Rattle.std.proofs.lemmas.Str.{IsUtf8-from_ascii}
-use Rattle.wire.proofs.Put.{put_front}
+use Rattle.wire.specs.Put.{put}
+use Rattle.wire.proofs.Put.{put_front, put_lent}
 use Rattle.text.specs.Digits.{last_digits, IsDigitCount}
 use Rattle.text.specs.Text.{full, added, added_end, AddsDecimal}
+
+pub digits_length : (k n : ℕ) → length (last_digits k n) ≡ k
+digits_length zero n = refl
+digits_length (suc k) n = simp (length-append, digits_length k (n / 10), add-one)
+
+-- a part of a buffer whose first k bytes are the digits, and which has no more, is put
+pub digits_put : (d l : List ℕ) (at k n : ℕ) → length l ≡ k → take k l ≡ last_digits k n → put_mid at (at + k - at) d l ≡ put d at (last_digits k n)
+digits_put d l at k n whole digits = put_lent d l at (at + k) (omega (arith, whole)) ∙ ap (λ (x : List ℕ). put d at x) (sym (take_all k l (omega (arith, whole))) ∙ digits)
 
 pub digits_printed : (k n : ℕ) → IsDigitCount n k → n < 2 ^ 64 → last_digits k n ≡ decimal n
 digits_printed zero n f small = absurd (omega (arith, f.0))
