@@ -9,7 +9,7 @@ use std::io::Read;
 use strip::Side;
 
 // The line of a granted pair.
-// kept: part by part: as a `Display` it has the listing of a full book at 1.20 to 1.25 of plain Rust, above its aim (docs/BENCHMARKS.md). Kept apart from the pass over all pairs, most of which print none and which takes a tenth longer with it inside.
+// kept: part by part: as a `Display` it has the listing of a full book above its aim in most runs (docs/BENCHMARKS.md). Kept apart from the pass over all pairs, most of which print none and which takes a tenth longer with it inside.
 #[inline(never)]
 fn granted<P: Print>(page: &mut Page<P>, model: u32, sheet: u32, moment: Moment) {
     page.number(model);
